@@ -1,0 +1,9 @@
+use mathlib.Core.Path.{ap}
+use lib.Dec.{eqb}
+use Rattle.std.proofs.shelf.Bits.{and-mask}
+use Rattle.algebra.specs.Masks.{has}
+use Rattle.algebra.proofs.lettering.holds.Needs as need
+
+pub returns : need.returns
+unfolding has
+returns c = ap (λ x. eqb x 1) (and-mask _ 1)

@@ -1,0 +1,11 @@
+pub mod Masks
+pub mod Meaning
+pub mod Things
+pub mod Tables
+pub mod Instants
+pub mod Spans
+pub mod Regions
+pub mod House
+pub mod Standard
+pub mod Statements
+pub mod Letters

@@ -1,0 +1,86 @@
+-- The algebra of spans: Allen's interval algebra.
+use mathlib.Core.Path.{_≡_}
+use mathlib.Core.List.{List, [], _∷_}
+use Prim.Native.Nat.{ℕ}
+use lib.IntN.{ℤ}
+use lib.Signed.{_<ℤ_}
+use Rattle.algebra.specs.Meaning.{Meaning}
+use Rattle.algebra.specs.Things.{Relation, nth, flipped}
+use Rattle.algebra.specs.Tables.{tabled}
+
+-- two whole numbers, the start smaller than the end
+pub record Span : Type 0 where
+  pub start : ℤ
+  pub end : ℤ
+  pub ordered : start <ℤ end
+
+-- x  |---|
+-- y  |---|
+abbrev Equals : Relation Span
+Equals x y = (x .start ≡ y .start) × (x .end ≡ y .end)
+
+-- x  |---|
+-- y        |---|
+abbrev Precedes : Relation Span
+Precedes x y = x .end <ℤ y .start
+
+-- x  |---|
+-- y      |---|
+abbrev Meets : Relation Span
+Meets x y = x .end ≡ y .start
+
+-- x  |-----|
+-- y     |-----|
+abbrev Overlaps : Relation Span
+Overlaps x y = (x .start <ℤ y .start) × (y .start <ℤ x .end) × (x .end <ℤ y .end)
+
+-- x  |---|
+-- y  |-------|
+abbrev Starts : Relation Span
+Starts x y = (x .start ≡ y .start) × (x .end <ℤ y .end)
+
+-- x    |---|
+-- y  |-------|
+abbrev During : Relation Span
+During x y = (y .start <ℤ x .start) × (x .end <ℤ y .end)
+
+-- x      |---|
+-- y  |-------|
+abbrev Finishes : Relation Span
+Finishes x y = (y .start <ℤ x .start) × (x .end ≡ y .end)
+
+-- the readings from 0 up: e p P m M o O s S d D f F
+abbrev pub spanRelations : List (Relation Span)
+spanRelations =
+    Equals ∷
+    Precedes ∷ flipped Precedes ∷
+    Meets ∷ flipped Meets ∷
+    Overlaps ∷ flipped Overlaps ∷
+    Starts ∷ flipped Starts ∷
+    During ∷ flipped During ∷
+    Finishes ∷ flipped Finishes ∷ []
+
+abbrev pub SpansStand : ℕ → Relation Span
+SpansStand = nth spanRelations
+
+abbrev pub spanConverses : List ℕ
+spanConverses = 0 ∷ 2 ∷ 1 ∷ 4 ∷ 3 ∷ 6 ∷ 5 ∷ 8 ∷ 7 ∷ 10 ∷ 9 ∷ 12 ∷ 11 ∷ []
+
+abbrev pub spanCompositions : List (List ℕ)
+spanCompositions =
+    (0x1 ∷ 0x2 ∷ 0x4 ∷ 0x8 ∷ 0x10 ∷ 0x20 ∷ 0x40 ∷ 0x80 ∷ 0x100 ∷ 0x200 ∷ 0x400 ∷ 0x800 ∷ 0x1000 ∷ []) ∷
+    (0x2 ∷ 0x2 ∷ 0x1FFF ∷ 0x2 ∷ 0x2AA ∷ 0x2 ∷ 0x2AA ∷ 0x2 ∷ 0x2 ∷ 0x2AA ∷ 0x2 ∷ 0x2AA ∷ 0x2 ∷ []) ∷
+    (0x4 ∷ 0x1FFF ∷ 0x4 ∷ 0xA54 ∷ 0x4 ∷ 0xA54 ∷ 0x4 ∷ 0xA54 ∷ 0x4 ∷ 0xA54 ∷ 0x4 ∷ 0x4 ∷ 0x4 ∷ []) ∷
+    (0x8 ∷ 0x2 ∷ 0x554 ∷ 0x2 ∷ 0x1801 ∷ 0x2 ∷ 0x2A0 ∷ 0x8 ∷ 0x8 ∷ 0x2A0 ∷ 0x2 ∷ 0x2A0 ∷ 0x2 ∷ []) ∷
+    (0x10 ∷ 0x142A ∷ 0x4 ∷ 0x181 ∷ 0x4 ∷ 0xA40 ∷ 0x4 ∷ 0xA40 ∷ 0x4 ∷ 0xA40 ∷ 0x4 ∷ 0x10 ∷ 0x10 ∷ []) ∷
+    (0x20 ∷ 0x2 ∷ 0x554 ∷ 0x2 ∷ 0x540 ∷ 0x2A ∷ 0x1FE1 ∷ 0x20 ∷ 0x1420 ∷ 0x2A0 ∷ 0x142A ∷ 0x2A0 ∷ 0x2A ∷ []) ∷
+    (0x40 ∷ 0x142A ∷ 0x4 ∷ 0x1420 ∷ 0x4 ∷ 0x1FE1 ∷ 0x54 ∷ 0xA40 ∷ 0x54 ∷ 0xA40 ∷ 0x554 ∷ 0x40 ∷ 0x540 ∷ []) ∷
+    (0x80 ∷ 0x2 ∷ 0x4 ∷ 0x2 ∷ 0x10 ∷ 0x2A ∷ 0xA40 ∷ 0x80 ∷ 0x181 ∷ 0x200 ∷ 0x142A ∷ 0x200 ∷ 0x2A ∷ []) ∷
+    (0x100 ∷ 0x142A ∷ 0x4 ∷ 0x1420 ∷ 0x10 ∷ 0x1420 ∷ 0x40 ∷ 0x181 ∷ 0x100 ∷ 0xA40 ∷ 0x400 ∷ 0x40 ∷ 0x400 ∷ []) ∷
+    (0x200 ∷ 0x2 ∷ 0x4 ∷ 0x2 ∷ 0x4 ∷ 0x2AA ∷ 0xA54 ∷ 0x200 ∷ 0xA54 ∷ 0x200 ∷ 0x1FFF ∷ 0x200 ∷ 0x2AA ∷ []) ∷
+    (0x400 ∷ 0x142A ∷ 0x554 ∷ 0x1420 ∷ 0x540 ∷ 0x1420 ∷ 0x540 ∷ 0x1420 ∷ 0x400 ∷ 0x1FE1 ∷ 0x400 ∷ 0x540 ∷ 0x400 ∷ []) ∷
+    (0x800 ∷ 0x2 ∷ 0x4 ∷ 0x8 ∷ 0x4 ∷ 0x2A0 ∷ 0x54 ∷ 0x200 ∷ 0x54 ∷ 0x200 ∷ 0x554 ∷ 0x800 ∷ 0x1801 ∷ []) ∷
+    (0x1000 ∷ 0x2 ∷ 0x554 ∷ 0x8 ∷ 0x540 ∷ 0x20 ∷ 0x540 ∷ 0x20 ∷ 0x400 ∷ 0x2A0 ∷ 0x400 ∷ 0x1801 ∷ 0x1000 ∷ []) ∷ []
+
+abbrev pub spans : Meaning
+spans = tabled 2 0x1FFF spanConverses spanCompositions

@@ -1,0 +1,31 @@
+// Algebras of readings: what may stand between two entries of a sheet, which way round, and what follows from two steps.
+mod housed;
+mod instant;
+mod interface;
+mod intervals;
+mod lettering;
+mod region;
+mod span;
+mod standards;
+mod table;
+pub mod theorems;
+
+pub use housed::House;
+pub use housed::HouseAlgebra;
+pub use instant::Instants;
+pub use instant::InstantsAlgebra;
+pub use interface::Algebra;
+pub use interface::NO_HOUSE_RULE;
+pub use interface::ReadingSet;
+pub use interface::Stamp;
+pub use interface::StampDebug;
+pub use interface::StampPartialEq;
+pub use lettering::letters;
+pub use lettering::reading_of;
+pub use lettering::spelled;
+pub use region::Regions;
+pub use region::RegionsAlgebra;
+pub use span::Spans;
+pub use span::SpansAlgebra;
+pub use standards::Standard;
+pub use standards::StandardAlgebra;
