@@ -22,6 +22,7 @@ pub use interface::StampDebug;
 pub use interface::StampPartialEq;
 pub use lettering::letters;
 pub use lettering::reading_of;
+pub use lettering::set_of;
 pub use lettering::spelled;
 pub use region::Regions;
 pub use region::RegionsAlgebra;

@@ -1,11 +1,11 @@
-use mathlib.Core.Path.{_≡_, _∙_, sym, ap, subst}
-use mathlib.Core.List.{List, [], _∷_, _++_}
-use Prim.Native.Nat.{ℕ, _<_}
+use mathlib.Core.Path.{_≡_, _∙_, sym, ap}
+use mathlib.Core.List.{[], _∷_, _++_}
+use Prim.Native.Nat.{_<_}
 use native.Mathlib.Omega.{arith}
 use lib.ListN.{length, getD}
 use Rattle.std.specs.Of.String.{string-bytes}
 use Rattle.algebra.specs.Letters.{spellingFrom}
-use Rattle.algebra.proofs.Spelling.{Ascii, spelling-took, spelling-left, letters-ascii}
+use Rattle.algebra.proofs.Spelling.{spelling-took, spelling-left}
 use Rattle.algebra.proofs.lettering.spelled.Needs as need
 use Rattle.algebra.proofs.lettering.spelled.Needs.{then-holds·in-Continue-push, else-holds}
 
@@ -15,13 +15,12 @@ loop-k-holds c = c .new-text .ensures .bytes
 
 pub loop-k-again : need.loop-k-again
 loop-k-again c =
-    let xs = c .letters-all .result .now in
+    let xs = c .letters-alphabet .result .now in
     let k = c .loop-k .k in
     let h : k < length xs = omega arith in
     elim (c .if-holds .came) [
       | then-holds·in-Continue-push w ↦
-          let ascii : getD xs k 0 < 128 = subst Ascii (sym (c .letters-all .ensures)) (letters-ascii (c .args .code)) k h in
-          let low : w .from .result < 128 = omega (arith, w .from .ensures) in
+          let low : w .from .result < 128 = omega (arith, w .from .ensures, c .letters-alphabet .ensures .ascii k h) in
           ap string-bytes (w .text-is) ∙ w .in-Continue-push .ensures tt .bytes
           ∙ ap (λ t. string-bytes (c .loop-k .text) ++ t) (w .in-Continue-push .ensures tt .ascii low ∙ ap (λ x. x ∷ []) (w .from .ensures))
           ∙ spelling-took xs _ k (c .args .set) h (c .loop-k .inv) (sym (w .if-holds .ensures tt))

@@ -5,4 +5,4 @@ use Rattle.algebra.specs.Letters.{spellingFrom}
 use Rattle.algebra.proofs.lettering.spelled.Given as given
 
 abbrev pub Inv-loop-k : given.InvT-loop-k
-Inv-loop-k l = string-bytes (l .text) ≡ spellingFrom 0 (take (l .k) (l .all)) (l .set)
+Inv-loop-k l = string-bytes (l .text) ≡ spellingFrom 0 (take (l .k) (l .alphabet)) (l .set)
