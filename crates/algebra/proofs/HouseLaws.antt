@@ -1,19 +1,19 @@
 -- A house rule keeps the laws if the algebra below does; what its calls compute; and two rules as one.
-use mathlib.Core.Path.{_≡_, refl, sym, ap, ap₂, _∙_, subst}
+use mathlib.Core.Path.{_≡_, refl, sym, ap, _∙_, subst}
 use mathlib.Core.Bool.{Bool, true, false, cond, _&&_, _||_}
 use mathlib.Core.Logic.{inl, inr}
 use Prim.Native.Nat.{ℕ, _^_, _<_}
 use native.Mathlib.Nat.{lt-of-le-of-lt}
 use lib.Dec.{eqb}
-use lib.Bits.{bitAnd, bitOr, and-le-r}
+use lib.Bits.{bitAnd, bitOr, and-le-r, and-comm}
 use Rattle.std.proofs.shelf.Tests.{and-parts, and-from, or-cases, or-left, or-right, eqb-true, eq-eqb, false≢true}
 use Rattle.algebra.specs.Masks.{has, union}
 use Rattle.algebra.specs.Meaning.{Meaning, Lawful, Reading, converseOf, compositionOf}
 use Rattle.algebra.specs.House.{those, kept, housed}
 use Rattle.algebra.specs.Statements.{House-over-house}
-use Rattle.algebra.proofs.Bits.{iff, has-and, has-or, has-zero, has-one, has-below, has-cut, cut-has, same}
+use Rattle.algebra.proofs.Bits.{iff, has-or, has-zero, has-one, has-below, has-cut, cut-has, same}
 use Rattle.algebra.proofs.Unions.{union-from, from-union}
-use Rattle.algebra.proofs.Sets.{Composed, converse-has, composition-to, composition-from}
+use Rattle.algebra.proofs.Sets.{converse-has, composition-to, composition-from}
 
 when-one : (b : Bool) (k c : ℕ) → has (cond b (2 ^ k) 0) c ≡ true → (b ≡ true) × (k ≡ c)
 when-one true k c h = (refl, eqb-true k c (sym (has-one k c) ∙ h))
@@ -34,6 +34,17 @@ has-those u p c f = iff _ _ to from
         let x = and-parts (has u c) (p c) h in
         from-union u (λ k. cond (p k) (2 ^ k) 0) 32 c c (has-below u 32 c f (x .0)) (x .0)
         (rw (x .1) (has-one c c ∙ eq-eqb c c refl))
+
+and-assoc : (a b c : ℕ) → bitAnd (bitAnd a b) c ≡ bitAnd a (bitAnd b c)
+and-assoc a b c = same _ _ (λ k. iff _ _
+    (λ t.
+    let p = has-cut (bitAnd a b) c k t in
+    let q = has-cut a b k (p .0) in
+    cut-has a (bitAnd b c) k (q .0) (cut-has b c k (q .1) (p .1)))
+    (λ t.
+    let p = has-cut a (bitAnd b c) k t in
+    let q = has-cut b c k (p .1) in
+    cut-has (bitAnd a b) c k (cut-has a b k (p .0) (q .0)) (q .1)))
 
 -- the test that a reading passes to be kept
 abbrev stays : Meaning → ℕ → ℕ → Bool
@@ -183,18 +194,13 @@ module _ (m : Meaning) (l : Lawful m) (mask : ℕ) where
           }))
           (g .1)
 
--- ---- two rules are one
+  pub refine-is : (x s t : ℕ) →
+      bitAnd (bitAnd x (kept m mask)) (compositionOf m (bitAnd s (kept m mask)) (bitAnd t (kept m mask)))
+      ≡ bitAnd x (compositionOf (housed m mask) s t)
+  refine-is x s t =
+      and-assoc x (kept m mask) _ ∙ ap (bitAnd x) (and-comm (kept m mask) _ ∙ composition-is s t)
 
-and-assoc : (a b c : ℕ) → bitAnd (bitAnd a b) c ≡ bitAnd a (bitAnd b c)
-and-assoc a b c = same _ _ (λ k. iff _ _
-    (λ t.
-    let p = has-cut (bitAnd a b) c k t in
-    let q = has-cut a b k (p .0) in
-    cut-has a (bitAnd b c) k (q .0) (cut-has b c k (q .1) (p .1)))
-    (λ t.
-    let p = has-cut a (bitAnd b c) k t in
-    let q = has-cut b c k (p .1) in
-    cut-has (bitAnd a b) c k (cut-has a b k (p .0) (q .0)) (q .1)))
+-- ---- two rules are one
 
 module _ (m : Meaning) (l : Lawful m) (outer inner : ℕ) where
   kept-kept : kept (housed m inner) outer ≡ kept m (bitAnd inner outer)

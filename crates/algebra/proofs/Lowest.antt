@@ -9,7 +9,7 @@ use lib.Bits.{bitAnd, bitOr, and-step, and-self, and-le-r, or-zero-r}
 use lib.Count.{trailingZeros}
 use Rattle.std.proofs.shelf.Tests.{cases-eq, or-cases, or-left, or-right, and-from, not-from-false, ne-eqb}
 use Rattle.algebra.specs.Masks.{has, union}
-use Rattle.algebra.proofs.Bits.{iff, has-half, has-low, has-or, has-cut, has-below, half-below, same}
+use Rattle.algebra.proofs.Bits.{iff, has-half, has-low, has-or, has-cut, cut-has, has-below, half-below, same}
 use Rattle.algebra.proofs.Unions.{union-from, from-union, union-none}
 
 -- the place of the lowest reading
@@ -125,11 +125,20 @@ or-assoc a b c =
     has-or (bitOr a b) c k ∙ ap (λ x. x || has c k) (has-or a b k) ∙ ors (has a k) (has b k) (has c k)
     ∙ sym (has-or a (bitOr b c) k ∙ ap (λ x. has a k || x) (has-or b c k)))
 
-pub union-step : (s : ℕ) (f : ℕ → ℕ) (sum all : ℕ) → (s ≡ 0 → ⊥) → s < 2 ^ 32 → bitOr sum (union s f 32) ≡ all →
-    bitOr (bitOr sum (f (lowest s))) (union (others s) f 32) ≡ all
-union-step s f sum all z h e =
-    or-assoc sum (f (lowest s)) (union (others s) f 32) ∙ ap (bitOr sum) (sym (union-lowest s f z h)) ∙ e
+pub union-step : (s : ℕ) (f : ℕ → ℕ) (sum x all : ℕ) → (s ≡ 0 → ⊥) → s < 2 ^ 32 → x ≡ f (lowest s) →
+    bitOr sum (union s f 32) ≡ all → bitOr (bitOr sum x) (union (others s) f 32) ≡ all
+union-step s f sum x all z h g e =
+    ap (λ y. bitOr (bitOr sum y) (union (others s) f 32)) g ∙ or-assoc sum (f (lowest s)) (union (others s) f 32)
+    ∙ ap (bitOr sum) (sym (union-lowest s f z h)) ∙ e
 
 pub union-end : (s : ℕ) (f : ℕ → ℕ) (sum all : ℕ) → s ≡ 0 → bitOr sum (union s f 32) ≡ all → sum ≡ all
 union-end s f sum all z e =
     sym (or-zero-r sum) ∙ ap (bitOr sum) (sym (ap (λ x. union x f 32) z ∙ union-none f 32)) ∙ e
+
+-- what lies in a part lies in all
+pub part-all : (t part more : ℕ) → bitAnd t part ≡ t → t ≡ bitAnd t (bitOr part more)
+part-all t part more e =
+    same _ _ (λ k. iff _ _
+    (λ h. cut-has t (bitOr part more) k h
+    (has-or part more k ∙ or-left (has part k) (has more k) (has-cut t part k (ap (λ x. has x k) e ∙ h) .1)))
+    (λ h. has-cut t (bitOr part more) k h .0))

@@ -1,11 +1,10 @@
 -- The union of masks over the readings of a set.
-use mathlib.Core.Path.{_≡_, refl, sym, ap, _∙_, subst}
+use mathlib.Core.Path.{_≡_, refl, sym, _∙_, subst}
 use mathlib.Core.Bool.{Bool, true, false, cond}
 use mathlib.Core.Logic.{inl, inr}
 use Prim.Native.Nat.{ℕ, zero, suc, _+_, _-_, _<_}
 use native.Mathlib.Nat.{add-zero, add-suc, add-sub-of-le}
 use native.Mathlib.Omega.{arith}
-use lib.Bits.{bitOr}
 use Rattle.std.proofs.shelf.Tests.{or-cases, or-left, or-right, false≢true}
 use Rattle.algebra.specs.Masks.{has, union}
 use Rattle.algebra.proofs.Bits.{has-or, has-zero}

@@ -30,6 +30,12 @@ pub impl<B: Algebra> Algebra for House<B> as HouseAlgebra {
         self.below.compose(first & kept, second & kept) & kept
     }
 
+    fn refine(&self, target: ReadingSet, first: ReadingSet, second: ReadingSet) -> ReadingSet {
+        let kept = self.universe();
+        self.below
+            .refine(target & kept, first & kept, second & kept)
+    }
+
     fn stamp(&self) -> Stamp {
         let Stamp { code, house } = self.below.stamp();
         Stamp {

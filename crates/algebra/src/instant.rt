@@ -6,6 +6,7 @@ use crate::interface::ReadingSet;
 use crate::interface::Stamp;
 use crate::table::compose_by;
 use crate::table::converse_by;
+use crate::table::refine_by;
 
 /// Whole numbers on a line: 0 is `=`, 1 is `<`, 2 is `>`.
 #[derive(Clone, Copy)]
@@ -32,6 +33,10 @@ pub impl Algebra for Instants as InstantsAlgebra {
 
     fn compose(&self, first: ReadingSet, second: ReadingSet) -> ReadingSet {
         compose_by(&COMPOSITIONS, UNIVERSE, first, second)
+    }
+
+    fn refine(&self, target: ReadingSet, first: ReadingSet, second: ReadingSet) -> ReadingSet {
+        refine_by(&COMPOSITIONS, UNIVERSE, target, first, second)
     }
 
     fn stamp(&self) -> Stamp {

@@ -1,5 +1,6 @@
 // The interface that every algebra offers.
 ghost use mathlib.Core.Path.{_≡_};
+ghost use lib.Bits.{bitAnd};
 ghost use Rattle.algebra.specs.Meaning.{Meaning, Lawful, converseOf, compositionOf};
 
 /// A set of readings: bit k stands for reading k. Every `u32` is one; a bit outside an algebra's universe counts as absent.
@@ -32,6 +33,13 @@ pub trait Algebra {
     /// The readings that may stand from x to z, where one of `first` stands from x to y and one of `second` from y to z.
     fn compose(&self, first: ReadingSet, second: ReadingSet) -> ReadingSet
         ensures { λ r. ⌜ r ≡ compositionOf (meaning (now (self .entry))) first second ⌝ };
+
+    /// What of `target` lies in the composition of `first` and `second`: the step that closing repeats.
+    fn refine(&self, target: ReadingSet, first: ReadingSet, second: ReadingSet) -> ReadingSet
+        ensures { λ r. ⌜ r ≡ bitAnd target (compositionOf (meaning (now (self .entry))) first second) ⌝ }
+    {
+        target & self.compose(first, second)
+    }
 
     fn stamp(&self) -> Stamp
         ensures { λ r. ⌜ r ≡ meaning (now (self .entry)) .stamp ⌝ };

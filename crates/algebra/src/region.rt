@@ -6,6 +6,7 @@ use crate::interface::ReadingSet;
 use crate::interface::Stamp;
 use crate::table::compose_by;
 use crate::table::converse_by;
+use crate::table::refine_by;
 
 /// Regions of a screen. The readings from 0 up are `e d c o t T n N`: equal, disconnected, touching, overlapping, part that
 /// touches the edge and its converse, part clear of the edge and its converse.
@@ -42,6 +43,10 @@ pub impl Algebra for Regions as RegionsAlgebra {
 
     fn compose(&self, first: ReadingSet, second: ReadingSet) -> ReadingSet {
         compose_by(&COMPOSITIONS, UNIVERSE, first, second)
+    }
+
+    fn refine(&self, target: ReadingSet, first: ReadingSet, second: ReadingSet) -> ReadingSet {
+        refine_by(&COMPOSITIONS, UNIVERSE, target, first, second)
     }
 
     fn stamp(&self) -> Stamp {

@@ -7,6 +7,7 @@ use crate::interface::Stamp;
 use crate::intervals::COMPOSITIONS;
 use crate::table::compose_by;
 use crate::table::converse_by;
+use crate::table::refine_by;
 
 /// Spans of time, each from a start to a later end. The readings from 0 up are `e p P m M o O s S d D f F`: equal, precedes,
 /// meets, overlaps, starts, during and finishes, each but the first followed by its converse.
@@ -32,6 +33,10 @@ pub impl Algebra for Spans as SpansAlgebra {
 
     fn compose(&self, first: ReadingSet, second: ReadingSet) -> ReadingSet {
         compose_by(&COMPOSITIONS, UNIVERSE, first, second)
+    }
+
+    fn refine(&self, target: ReadingSet, first: ReadingSet, second: ReadingSet) -> ReadingSet {
+        refine_by(&COMPOSITIONS, UNIVERSE, target, first, second)
     }
 
     fn stamp(&self) -> Stamp {

@@ -59,6 +59,14 @@ pub impl Algebra for Standard as StandardAlgebra {
         }
     }
 
+    fn refine(&self, target: ReadingSet, first: ReadingSet, second: ReadingSet) -> ReadingSet {
+        match self {
+            Standard::Instants => Instants.refine(target, first, second),
+            Standard::Spans => Spans.refine(target, first, second),
+            Standard::Regions => Regions.refine(target, first, second),
+        }
+    }
+
     fn stamp(&self) -> Stamp {
         match self {
             Standard::Instants => Instants.stamp(),

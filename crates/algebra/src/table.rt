@@ -2,6 +2,7 @@
 // the lowest up, and spends nothing on those that are absent.
 ghost use mathlib.Core.Path.{_≡_};
 ghost use Prim.Native.Nat.{ℕ, _^_, _<_};
+ghost use lib.Bits.{bitAnd};
 ghost use lib.ListN.{getD};
 ghost use Rattle.algebra.specs.Masks.{union};
 ghost use Rattle.algebra.specs.Meaning.{converses, compositions};
@@ -59,4 +60,28 @@ pub(crate) fn compose_by<const N: usize>(
         rest &= rest - 1;
     }
     sum
+}
+
+// What of `target` lies in that composition. It leaves off as soon as all of it does, mostly after one row.
+pub(crate) fn refine_by<const N: usize>(
+    rows: &[[ReadingSet; N]; N],
+    universe: ReadingSet,
+    target: ReadingSet,
+    first: ReadingSet,
+    second: ReadingSet,
+) -> ReadingSet
+    requires { ⌜ universe < 2 ^ N ⌝ }
+    ensures { λ r. ⌜ r ≡ bitAnd target (compositions universe (composed (now (rows .entry))) first second) ⌝ }
+{
+    let columns = second & universe;
+    let mut sum = 0;
+    let mut rest = first & universe;
+    while rest != 0 {
+        sum |= union_at(&rows[rest.trailing_zeros() as usize], columns);
+        if target & sum == target {
+            return target;
+        }
+        rest &= rest - 1;
+    }
+    target & sum
 }

@@ -1,6 +1,5 @@
 -- The answers that a person can work out by hand, from the meanings.
 use mathlib.Core.Path.{_≡_}
-use Prim.Native.Nat.{ℕ}
 use Rattle.algebra.specs.Meaning.{compositionOf}
 use Rattle.algebra.specs.Instants.{instants}
 use Rattle.algebra.specs.Spans.{spans}

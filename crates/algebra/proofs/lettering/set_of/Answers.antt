@@ -1,5 +1,5 @@
-use mathlib.Core.Path.{ap, subst, sym}
-use Prim.Native.Nat.{_+_, _^_}
+use mathlib.Core.Path.{subst, sym}
+use Prim.Native.Nat.{_+_}
 use lib.Bits.{bitOr}
 use borrow.Author.Needs.{needs}
 use Rattle.std.proofs.shelf.Bits.{one-shl}

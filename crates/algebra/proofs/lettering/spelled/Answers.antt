@@ -1,8 +1,8 @@
-use mathlib.Core.Path.{_≡_, _∙_, sym, ap}
+use mathlib.Core.Path.{_∙_, sym, ap}
 use mathlib.Core.List.{[], _∷_, _++_}
 use Prim.Native.Nat.{_<_}
 use native.Mathlib.Omega.{arith}
-use lib.ListN.{length, getD}
+use lib.ListN.{length}
 use Rattle.std.specs.Of.String.{string-bytes}
 use Rattle.algebra.specs.Letters.{spellingFrom}
 use Rattle.algebra.proofs.Spelling.{spelling-took, spelling-left}

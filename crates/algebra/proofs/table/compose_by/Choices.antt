@@ -1,6 +1,6 @@
 use mathlib.Core.Path.{_≡_}
 use Prim.Native.Nat.{_≤_}
-use lib.Bits.{bitAnd, bitOr}
+use lib.Bits.{bitOr}
 use Rattle.algebra.specs.Masks.{union}
 use Rattle.algebra.specs.Meaning.{compositions}
 use Rattle.algebra.specs.Tables.{composed}

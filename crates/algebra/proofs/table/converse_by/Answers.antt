@@ -1,13 +1,10 @@
-use mathlib.Core.Path.{ap, _∙_}
-use Prim.Native.Nat.{ℕ, _<_, _^_}
+use Prim.Native.Nat.{_<_}
 use native.Mathlib.Omega.{arith}
 use borrow.Author.Needs.{needs}
-use lib.Bits.{bitOr, or-zero-l, and-le-r}
+use lib.Bits.{or-zero-l, and-le-r}
 use Rattle.std.proofs.shelf.Bits.{one-shl}
-use Rattle.algebra.specs.Masks.{union}
 use Rattle.algebra.specs.Meaning.{converses}
-use Rattle.algebra.specs.Tables.{turned}
-use Rattle.algebra.proofs.Lowest.{lowest, others, lowest-below, others-less, union-step, union-end}
+use Rattle.algebra.proofs.Lowest.{lowest, lowest-below, others-less, union-step, union-end}
 use Rattle.algebra.proofs.table.converse_by.Needs as need
 
 pub loop-rest-holds : need.loop-rest-holds
@@ -26,15 +23,12 @@ shl-sum g c =
 pub loop-rest-again : need.loop-rest-again
 loop-rest-again g c =
     let rest = c .loop-rest .rest in
-    let one : ℕ → ℕ = λ a. 2 ^ turned (c .args .readings .now) a in
     let less = others-less rest (c .loop-rest-test .taken) in
     let place : lowest rest < g .N = lowest-below (g .N) rest (c .loop-rest-test .taken) (search needs) (omega arith) in (
-      ap (λ x. bitOr (bitOr (c .loop-rest .sum) x) (union (others rest) one 32)) (one-shl _ 32 (c .pre .readings (lowest rest) place))
-          ∙ union-step rest one (c .loop-rest .sum) _ (c .loop-rest-test .taken) (search needs) (c .loop-rest .inv .0),
+      union-step rest _ (c .loop-rest .sum) _ _ (c .loop-rest-test .taken) (search needs)
+          (one-shl _ 32 (c .pre .readings (lowest rest) place)) (c .loop-rest .inv .0),
       omega arith,
     )
 
 pub returns : need.returns
-returns g c =
-    union-end (c .loop-rest .rest) (λ a. 2 ^ turned (c .args .readings .now) a) (c .loop-rest .sum) _ (c .loop-rest-test .left)
-    (c .loop-rest .inv .0)
+returns g c = union-end (c .loop-rest .rest) _ (c .loop-rest .sum) _ (c .loop-rest-test .left) (c .loop-rest .inv .0)

@@ -1,7 +1,6 @@
-use Prim.Native.Nat.{_<_, _^_}
+use mathlib.Core.Path.{refl}
 use native.Mathlib.Omega.{arith}
 use borrow.Author.Needs.{needs}
-use Rattle.algebra.specs.Tables.{turned}
 use Rattle.algebra.proofs.Lowest.{lowest-below, others-less, union-step, union-end}
 use Rattle.algebra.proofs.table.union_at.Needs as need
 
@@ -12,12 +11,9 @@ index-row-rest g c =
 pub loop-rest-again : need.loop-rest-again
 loop-rest-again g c =
     let less = others-less (c .loop-rest .rest) (c .loop-rest-test .taken) in (
-      union-step (c .loop-rest .rest) (turned (c .args .row .now)) (c .loop-rest .sum) _ (c .loop-rest-test .taken)
-          (search needs) (c .loop-rest .inv .0),
+      union-step (c .loop-rest .rest) _ (c .loop-rest .sum) _ _ (c .loop-rest-test .taken) (search needs) refl (c .loop-rest .inv .0),
       omega arith,
     )
 
 pub returns : need.returns
-returns g c =
-    union-end (c .loop-rest .rest) (turned (c .args .row .now)) (c .loop-rest .sum) _ (c .loop-rest-test .left)
-    (c .loop-rest .inv .0)
+returns g c = union-end (c .loop-rest .rest) _ (c .loop-rest .sum) _ (c .loop-rest-test .left) (c .loop-rest .inv .0)
