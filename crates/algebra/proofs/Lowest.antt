@@ -23,7 +23,7 @@ others s = bitAnd s (s - 1)
 parity : (n : ℕ) → (n % 2 ≡ 0) ⊎ (n % 2 ≡ 1)
 parity n = grind arith
 
-lowest-has : (k n : ℕ) → (n ≡ 0 → ⊥) → n < 2 ^ k → has n (trailingZeros k n) ≡ true
+pub lowest-has : (k n : ℕ) → (n ≡ 0 → ⊥) → n < 2 ^ k → has n (trailingZeros k n) ≡ true
 unfolding trailingZeros
 lowest-has zero n z h = absurd (z (omega arith))
 lowest-has (suc k) n z h =
@@ -60,7 +60,7 @@ and-false true = refl
 and-false false = refl
 
 -- the others are all readings but the lowest
-has-others : (k n x : ℕ) → (n ≡ 0 → ⊥) → n < 2 ^ k → has (others n) x ≡ (has n x && not (eqb x (trailingZeros k n)))
+pub has-others : (k n x : ℕ) → (n ≡ 0 → ⊥) → n < 2 ^ k → has (others n) x ≡ (has n x && not (eqb x (trailingZeros k n)))
 unfolding trailingZeros
 has-others zero n x z h = absurd (z (omega arith))
 has-others (suc k) n zero z h =

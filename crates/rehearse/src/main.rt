@@ -17,7 +17,7 @@ fn main(rt: LibcRuntime) -> io::Result<()> {
         let read = line?;
         let command = without_return(read.as_slice());
         let text = String::from_utf8_lossy(heap, command)?;
-        if let Some(answer) = session.perform(heap, text.as_str())? {
+        if let Some(answer) = session.perform(heap, command, text.as_str())? {
             rt.stdout().write_all(command)?;
             println!(rt, " = {answer}")?;
         }

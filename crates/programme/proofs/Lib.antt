@@ -1,0 +1,20 @@
+-- The lemmas of this crate: of the network in memory, then of the calls.
+pub mod Bits
+pub mod Rows
+pub mod Cells
+pub mod Growth
+pub mod Blank
+pub mod Moves
+pub mod Turns
+pub mod Starts
+pub mod Spelling
+pub mod Giving
+pub mod Opening
+pub mod Refusing
+pub mod Entering
+pub mod Timing
+pub mod Taking
+pub mod Keeping
+pub mod Looking
+pub mod Determined
+pub mod Performing
