@@ -6,12 +6,13 @@ use Prim.Native.Nat.{ℕ}
 use lib.ListN.{length}
 use Rattle.std.specs.declared.option.Option.the-variants.{Some}
 use Rattle.algebra.specs.Meaning.{Meaning, Lawful}
+use Rattle.network.specs.Links.{Linked}
 use Rattle.network.proofs.Links.{apart, joined}
 use Rattle.network.proofs.Nets.{sound, unique}
 use Rattle.programme.specs.Networks.{bitAt, cell, netOf}
 use Rattle.programme.specs.Ledgers.{Ledger}
 use Rattle.programme.specs.Shown.{Shows}
-use Rattle.programme.specs.Questions.{Seen, Told}
+use Rattle.programme.specs.Questions.{SettledSet, Seen, Told}
 use Rattle.programme.specs.declared.sheets.Sheet.{Sheet}
 
 module _ (m : Meaning) (s : Sheet) (L : Ledger) (w : Shows m s L) (i j : ℕ) where
@@ -22,24 +23,23 @@ module _ (m : Meaning) (s : Sheet) (L : Ledger) (w : Shows m s L) (i j : ℕ) wh
     unlinked = λ d. absurd (d e);
   }
 
-  pub seen-link : (on : Bool) (set : ℕ) → Lawful m → i ≢ j → on ≡ bitAt (s .network .links) i j → on ≡ true →
-      set ≡ cell (s .network .sets) i j → Seen m L i j (Some set)
-  seen-link on set l d is t e =
+  pub settled-set : Lawful m → Linked (L .ties) i j → SettledSet m L i j (cell (s .network .sets) i j)
+  settled-set l x =
       let settled = w .network .settled in
       let net = netOf (s .network) in
       record {
-        same = λ q. absurd (d q);
-        linked = λ x. (
-          set,
-          refl,
-          record {
-            one = (net, settled);
-            every = λ S t. rw e (unique m (L .ties) net S settled t i j x);
-            arranged = λ ρ a meets. rw e (sound m (length (L .names)) (L .ties) net ρ l (w .proper) settled a meets i j x);
-          },
-        );
-        unlinked = λ _ n. absurd (n (w .network .linked i j .0 (sym is ∙ t)));
+        one = (net, settled);
+        every = λ S t. unique m (L .ties) net S settled t i j x;
+        arranged = λ ρ a meets. sound m (length (L .names)) (L .ties) net ρ l (w .proper) settled a meets i j x;
       }
+
+  pub seen-link : (on : Bool) (set : ℕ) → Lawful m → i ≢ j → on ≡ bitAt (s .network .links) i j → on ≡ true →
+      set ≡ cell (s .network .sets) i j → Seen m L i j (Some set)
+  seen-link on set l d is t e = record {
+    same = λ q. absurd (d q);
+    linked = λ x. (set, refl, rw e (settled-set l x));
+    unlinked = λ _ n. absurd (n (w .network .linked i j .0 (sym is ∙ t)));
+  }
 
   pub told : Told m L i j (cell (s .given) i j)
   told = record {

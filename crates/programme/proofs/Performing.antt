@@ -5,12 +5,13 @@ use Prim.Native.Nat.{ℕ, _+_, _<_, _≤_}
 use lib.ListN.{length, take, getD, set}
 use Rattle.std.proofs.shelf.Lists.{map-more, take-more-set, take-all}
 use Rattle.std.specs.declared.result.Result.{Result}
-use Rattle.algebra.specs.Meaning.{Meaning}
+use Rattle.algebra.specs.Meaning.{Meaning, Lawful}
 use Rattle.programme.specs.Ledgers.{Ledger, blank, Ask, Answered, after}
 use Rattle.programme.specs.Shown.{Shows}
 use Rattle.programme.specs.Timely.{Timely}
 use Rattle.programme.specs.Kept.{Keeps}
-use Rattle.programme.specs.Performed.{Performed, ended, next, askOf, FromBlank}
+use Rattle.programme.specs.Performed.{Stage, Performed, ended, next, askOf, FromBlank}
+use Rattle.programme.proofs.Looking.{settled-set}
 use Rattle.programme.specs.declared.lines.Call.{Call}
 use Rattle.programme.specs.declared.refusals.Refusal.{Refusal}
 use Rattle.programme.specs.declared.sheets.Sheet.{Sheet}
@@ -18,30 +19,33 @@ use Rattle.programme.specs.declared.sheets.Sheet.{Sheet}
 -- the end of a line shows its ledger
 shown-last : {m : Meaning} {s t : Sheet} {L K : Ledger} {asks : List Ask} {answers : List (Result ℕ Refusal)} →
     Performed m s L asks answers t K → Shows m t K
-shown-last (ended x) = x
+shown-last (ended x) = x .shown
 shown-last (next x a d p) = shown-last p
+
+stage : {m : Meaning} {s : Sheet} {L : Ledger} → Lawful m → Shows m s L → Stage m s L
+stage l w = record { shown = w; settled = λ i j x. settled-set _ _ _ w i j l x }
 
 then : {m : Meaning} {s t u : Sheet} {L K : Ledger} {asks : List Ask} {answers : List (Result ℕ Refusal)}
     (ask : Ask) (r : Result ℕ Refusal) → Performed m s L asks answers t K → Answered m K ask r → Timely m K ask r →
-    Shows m u (after K ask r) → Performed m s L (asks ++ (ask ∷ [])) (answers ++ (r ∷ [])) u (after K ask r)
+    Stage m u (after K ask r) → Performed m s L (asks ++ (ask ∷ [])) (answers ++ (r ∷ [])) u (after K ask r)
 then ask r (ended x) a d y = next x a d (ended y)
 then ask r (next x b f p) a d y = next x b f (then ask r p a d y)
 
 -- a line from its start to its end: n is the meaning of the algebra that the programme holds
 
-pub line-none : (m n : Meaning) (s : Sheet) → n ≡ m → Shows m s blank → FromBlank n [] [] s
-line-none m n s same w = (s, blank, ended (rw same w))
+pub line-none : (m n : Meaning) (s : Sheet) → n ≡ m → Lawful m → Shows m s blank → FromBlank n [] [] s
+line-none m n s same l w = (s, blank, ended (rw same (stage l w)))
 
 pub line-more : (m n : Meaning) (t u : Sheet) (calls : List Call) (answers : List (Result ℕ Refusal)) (k : ℕ) (call : Call)
-    (r : Result ℕ Refusal) → n ≡ m → k < length calls → k < length answers → call ≡ getD calls k call →
+    (r : Result ℕ Refusal) → n ≡ m → Lawful m → k < length calls → k < length answers → call ≡ getD calls k call →
     FromBlank m (map askOf (take k calls)) (take k answers) t → Keeps n t (askOf call) r u →
     FromBlank m (map askOf (take (k + 1) calls)) (take (k + 1) (set answers k r)) u
-line-more m n t u calls answers k call r same h j e (s, K, p) k′ =
+line-more m n t u calls answers k call r same l h j e (s, K, p) k′ =
     let w = shown-last p in
     let keeps = rw same at k′ in
     let asked = map-more askOf calls k call h ∙ ap (λ (c : Call). map askOf (take k calls) ++ (askOf c ∷ [])) (sym e) in
     let told = take-more-set answers k r j in
-    let line = then (askOf call) r p (keeps .answered K w) (keeps .timely K w) (keeps .shown K w) in
+    let line = then (askOf call) r p (keeps .answered K w) (keeps .timely K w) (stage l (keeps .shown K w)) in
     (s, after K (askOf call) r, rw (asked, told) line)
 
 pub line-all : (m n : Meaning) (t : Sheet) (calls : List Call) (answers : List (Result ℕ Refusal)) (k : ℕ) → n ≡ m →
