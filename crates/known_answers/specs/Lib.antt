@@ -1,1 +1,3 @@
+-- The definitions of this crate.
 pub mod Known
+pub mod Networks

@@ -1,5 +1,6 @@
 // Answers that are known beforehand, proved together from the meanings.
 ghost use Rattle.known_answers.specs.Known.{Known};
+ghost use Rattle.known_answers.specs.Networks.{KnownLinks};
 use algebra::Algebra;
 use algebra::House;
 use algebra::HouseAlgebra;
@@ -29,7 +30,8 @@ pub struct Answers {
 }
 
 pub fn known_answers() -> Answers
-    ensures { λ r. ⌜ Known r ⌝ }
+    ensures numbers { λ r. ⌜ Known r ⌝ }
+    ensures links { λ _. ⌜ KnownLinks ⌝ }
 {
     Answers {
         instants_less: Instants.compose(0x3, 0x2),

@@ -8,4 +8,5 @@ pub mod Heights
 pub mod Gaps
 pub mod Wide
 pub mod Timing
+pub mod Computed
 pub mod Example
