@@ -1,18 +1,21 @@
 -- Where closing starts with a tie more: its pair is linked, the links are filled in, and its sets are cut.
 use mathlib.Core.Path.{_≡_, refl, sym, ap, _∙_, subst}
 use mathlib.Core.Bool.{true, false}
-use mathlib.Core.Logic.{_↔_, _≢_, inl, inr}
+use mathlib.Core.Logic.{_↔_, _≢_, _⊎_, inl, inr}
 use mathlib.Core.List.{List, [], _∷_, List·Memᴰ·head, List·Memᴰ·append-cases, List·Memᴰ·eq-of-singleton}
 use mathlib.Core.List.{Memᴰ·append-left, Memᴰ·append-right}
 use Prim.Native.Nat.{ℕ, _<_}
 use native.Mathlib.Omega.{arith}
 use Rattle.std.proofs.shelf.Tests.{cases-lt, cases-bool, both-ways}
-use Rattle.algebra.specs.Meaning.{Meaning, Lawful, converseOf}
-use Rattle.network.specs.Ties.{Tie, Among, Apart, Proper}
-use Rattle.network.specs.Links.{Linked, tied, turned}
+use lib.Bits.{bitAnd}
+use Rattle.algebra.specs.Meaning.{Meaning, Lawful, Reading, converseOf}
+use Rattle.algebra.proofs.Bits.{has-cut, cut-has}
+use Rattle.network.specs.Ties.{In, Tie, Among, Apart, Proper}
+use Rattle.network.specs.Links.{Linked, tied, turned, filled}
 use Rattle.network.specs.Closing.{adding, Cut, Started}
 use Rattle.network.proofs.Links.{apart, linked-too, least}
 use Rattle.network.proofs.Closing.{starts}
+use Rattle.network.proofs.Sets.{equal, converse-from}
 use Rattle.programme.specs.Networks.{bitAt, cell, netOf, tieOf, Reflects}
 use Rattle.programme.specs.Steps.{Same, pendingAt, Grown, Fewer, Implied, FullFrom, Trimmed, Covered, Midway, Ready}
 use Rattle.programme.specs.declared.linkage.Network.{Network}
@@ -20,11 +23,36 @@ use Rattle.programme.proofs.Rows.{pending-none}
 use Rattle.programme.proofs.Growth.{same-by, fewer-still}
 use Rattle.programme.proofs.Moves.{pending-same}
 
--- s reflects the ties; a has the pair of i and j linked, b the links filled in, c the sets cut
-module _ (m : Meaning) (law : Lawful m) (s a b c : Network) (i j mask back : ℕ) (hi : i < 48) (hj : j < 48) (d : i ≢ j)
-    (p : Grown (Same i j) s a) (there : bitAt (a .links) i j ≡ true) (q : Grown (Implied a) a b) (full : FullFrom 0 b)
-    (e : back ≡ converseOf m mask) (t : Trimmed i j mask back b c) (ties : List Tie) (proper : Proper 48 ties)
-    (r : Reflects m s ties) where
+-- c is b with the sets of i and j cut by the mask; if that changes a set, the pair is pending
+pub record Cutting (m : Meaning) (i j mask : ℕ) (b c : Network) : Type 0 where
+  pub links : c .links ≡ b .links
+  pub on : cell (c .sets) i j ≡ bitAnd (cell (b .sets) i j) mask
+  pub across : cell (c .sets) j i ≡ bitAnd (cell (b .sets) j i) (converseOf m mask)
+  pub off : (x y : ℕ) → ¬ Same i j x y → cell (c .sets) x y ≡ cell (b .sets) x y
+  pub still : (pendingAt c i j ≡ true) ⊎ (c .sets ≡ b .sets)
+  pub waits-more : (x y : ℕ) → pendingAt b x y ≡ true → pendingAt c x y ≡ true
+  pub waits-only : (x y : ℕ) → pendingAt c x y ≡ true → (pendingAt b x y ≡ true) ⊎ Same i j x y
+
+-- b is s with i and j linked, and then the links filled in
+pub record Linking (s b : Network) (i j : ℕ) : Type 0 where
+  pub paired : Network
+  pub pair : Grown (Same i j) s paired
+  pub there : bitAt (paired .links) i j ≡ true
+  pub fill : Grown (Implied paired) paired b
+  pub full : FullFrom 0 b
+
+-- s reflects the ties; b has the pair of i and j linked and the links filled in, c the sets cut
+module _ (m : Meaning) (law : Lawful m) (s b c : Network) (i j mask : ℕ) (hi : i < 48) (hj : j < 48) (d : i ≢ j)
+    (linking : Linking s b i j) (t : Cutting m i j mask b c) (ties : List Tie) (proper : Proper 48 ties) (r : Reflects m s ties) where
+  abbrev a : Network
+  a = linking .paired
+
+  abbrev p : Grown (Same i j) s a
+  p = linking .pair
+
+  abbrev q : Grown (Implied a) a b
+  q = linking .fill
+
   abbrev new : Tie
   new = tieOf i j mask
 
@@ -60,7 +88,7 @@ module _ (m : Meaning) (law : Lawful m) (s a b c : Network) (i j mask back : ℕ
   kept x y h = q .more x y (p .more x y h)
 
   ij-bit : bitAt (b .links) i j ≡ true
-  ij-bit = q .more i j there
+  ij-bit = q .more i j (linking .there)
 
   even : (x y : ℕ) → bitAt (b .links) x y ≡ true → bitAt (b .links) y x ≡ true
   even x y h = elim (q .only x y h) [
@@ -82,7 +110,7 @@ module _ (m : Meaning) (law : Lawful m) (s a b c : Network) (i j mask back : ℕ
   below : (x y k : ℕ) → x < y → y < k → bitAt (b .links) k x ≡ true → bitAt (b .links) k y ≡ true →
       bitAt (b .links) x y ≡ true
   below x y k o l f g =
-      full k x y (omega arith) (apart proper-more (fewer k x f) .first-in) (record { order = o; low = l; first = f; second = g })
+      linking .full k x y (omega arith) (apart proper-more (fewer k x f) .first-in) (record { order = o; low = l; first = f; second = g })
 
   filled-in : (x y k : ℕ) → x ≢ y → x < k → y < k → bitAt (b .links) x k ≡ true → bitAt (b .links) y k ≡ true →
       bitAt (b .links) x y ≡ true
@@ -107,8 +135,8 @@ module _ (m : Meaning) (law : Lawful m) (s a b c : Network) (i j mask back : ℕ
 
   cut : Cut m more i j mask (netOf b) (netOf c)
   cut = record {
-    there = t .on d;
-    back = rw (← e) (t .across d);
+    there = t .on;
+    back = t .across;
     elsewhere = λ x y l f g. t .off x y (λ z. elim z [ inl w ↦ f w | inr w ↦ g w ]);
   }
 
@@ -165,8 +193,10 @@ module _ (m : Meaning) (law : Lawful m) (s a b c : Network) (i j mask back : ℕ
   ]
 
   still-cell : (x y : ℕ) → pendingAt c x y ≡ false → cell (c .sets) x y ≡ cell (s .sets) x y
-  still-cell x y h =
-      t .off x y (λ z. both-ways (pendingAt c x y) h (pending-same c i j x y (t .waits) z)) ∙ same-cell x y
+  still-cell x y h = elim (t .still) [
+    | inl w ↦ t .off x y (λ z. both-ways (pendingAt c x y) h (pending-same c i j x y w z)) ∙ same-cell x y
+    | inr e ↦ ap (λ (rows : List (List ℕ)). cell rows x y) e ∙ same-cell x y
+  ]
 
   covered : (x y z : ℕ) → Linked more x y → Linked more y z → Linked more x z → Covered m c x y z
   covered x y z xy yz xz f g h =
@@ -175,3 +205,59 @@ module _ (m : Meaning) (law : Lawful m) (s a b c : Network) (i j mask back : ℕ
 
   pub ready : Ready m more c
   ready = record { midway = midway; covered = covered }
+
+-- ---- how a tie may cut, and what is full already
+
+pub cutting : (m : Meaning) (b c : Network) (i j mask back : ℕ) → i ≢ j → back ≡ converseOf m mask → Trimmed i j mask back b c →
+    Cutting m i j mask b c
+cutting m b c i j mask back d e t = record {
+  links = t .links;
+  on = t .on d;
+  across = rw (← e) (t .across d);
+  off = t .off;
+  still = inl (t .waits);
+  waits-more = t .waits-more;
+  waits-only = t .waits-only;
+}
+
+module _ (m : Meaning) (law : Lawful m) (s : Network) (ties : List Tie) (r : Reflects m s ties) where
+  -- the pairs of linked entries that share a greater neighbour are linked
+  pub full-already : FullFrom 0 s
+  full-already k a b h l w =
+      let differ : a ≢ b = λ e. omega (arith, w .order) in
+      r .linked a b .1
+      (filled differ (omega (arith, w .order, w .low)) (w .low) (turned (r .linked k a .0 (w .first))) (turned (r .linked k b .0 (w .second))))
+
+  -- what stands from j to i is the converse of a reading that stands from i to j
+  turned-in : (i j : ℕ) → i < 48 → j < 48 → (x : ℕ) → In x (cell (s .sets) j i) → Reading m x × In (m .converse x) (cell (s .sets) i j)
+  turned-in i j hi hj x h = elim (cases-bool (bitAt (s .links) j i)) [
+    | inl o ↦
+        let l = r .linked j i .0 o in
+        (r .settled .fit .candidate .within j i x l h, r .settled .fit .candidate .both-ways j i x l h)
+    | inr o ↦
+        let u = rw (r .free j i hj hi o) at h in
+        let f = r .free i j hi hj (elim (cases-bool (bitAt (s .links) i j)) [
+          | inl k ↦ absurd (both-ways (bitAt (s .links) j i) o (r .linked j i .1 (turned (r .linked i j .0 k))))
+          | inr k ↦ k
+        ]) in
+        (u, rw f (law .converse-in x u))
+  ]
+
+  -- a set within the mask is not cut, and neither is the one the other way
+  pub uncut : (b : Network) (i j mask : ℕ) → i < 48 → j < 48 → b .sets ≡ s .sets →
+      bitAnd (cell (b .sets) i j) mask ≡ cell (b .sets) i j → Cutting m i j mask b b
+  uncut b i j mask hi hj e t = record {
+    links = refl;
+    on = sym t;
+    across =
+        equal (cell (b .sets) j i) (bitAnd (cell (b .sets) j i) (converseOf m mask))
+        (λ x h.
+        let w = turned-in i j hi hj x (rw e at h) in
+        cut-has (cell (b .sets) j i) (converseOf m mask) x h
+        (converse-from m law mask x (w .0) (has-cut (cell (b .sets) i j) mask (m .converse x) (rw (t, e) (w .1)) .1)))
+        (λ x h. has-cut (cell (b .sets) j i) (converseOf m mask) x h .0);
+    off = λ x y z. refl;
+    still = inr refl;
+    waits-more = λ x y h. h;
+    waits-only = λ x y h. inl h;
+  }

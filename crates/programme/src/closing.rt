@@ -12,7 +12,8 @@ use crate::linkage::Network;
 use algebra::Algebra;
 use algebra::ReadingSet;
 
-/// Takes the tie: links its pair and what follows, cuts its sets by the mask, and closes.
+/// Takes the tie: links its pair and what follows, cuts its sets by the mask, and closes. What is linked already needs no
+/// filling in, and a set within the mask no cut, so that nothing is looked at again for it.
 pub(crate) fn settle<B: Algebra>(
     algebra: &B,
     network: &mut Network,
@@ -25,9 +26,14 @@ pub(crate) fn settle<B: Algebra>(
         Reflects (B·Algebra .meaning (now (algebra .entry))) (now (network .entry)) ties →
         Reflects (B·Algebra .meaning (now (algebra .entry))) (now (network .exit)) (adding ties (tieOf first second mask))) ⌝ }
 {
-    network.link(first, second);
-    network.fill();
-    network.trim(first, second, mask, algebra.converse(mask));
+    if !network.linked(first, second) {
+        network.link(first, second);
+        network.fill();
+    }
+    let old = network.set(first, second);
+    if old & mask != old {
+        network.trim(first, second, mask, algebra.converse(mask));
+    }
     close(algebra, network);
 }
 
