@@ -16,7 +16,7 @@ pub struct Stamp {
     pub house: ReadingSet,
 }
 
-/// An algebra means one value, `meaning`, and keeps the laws. Its four calls are answered by that value, and change nothing.
+/// An algebra means one value, `meaning`, and keeps the laws. Its calls are answered by that value, and change nothing.
 pub trait Algebra {
     ghost meaning: { Self → Meaning };
 

@@ -25,8 +25,8 @@ pub one-line : One-line
 one-line m L M N [] these those s t u v (ended x) (ended y) = (refl, refl)
 one-line m L M N (ask ∷ asks) [] those s t u v p q = elim p [ ]
 one-line m L M N (ask ∷ asks) (r ∷ these) [] s t u v p q = elim q [ ]
-one-line m L M N (ask ∷ asks) (r ∷ these) (k ∷ those) s t u v (next x a d p) (next {t = w} y b f q) =
-    let e = one-answer m L ask r k a b in
+one-line m L M N (ask ∷ asks) (r ∷ these) (k ∷ those) s t u v (next x a p) (next {t = w} y b q) =
+    let e = one-answer m L ask r k (a .answered L (x .shown)) (b .answered L (y .shown)) in
     let q′ = subst (λ (z : Result ℕ Refusal). Performed m w (after L ask z) asks those v N) (sym e) q in
     let both = one-line m (after L ask r) M N asks these those _ t w v p q′ in
     (ap (λ (z : Result ℕ Refusal). z ∷ these) e ∙ ap (λ (zs : List (Result ℕ Refusal)). k ∷ zs) (both .0), both .1)

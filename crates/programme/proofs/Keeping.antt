@@ -14,9 +14,9 @@ use Rattle.programme.specs.declared.sheets.Sheet.{Sheet}
 module _ (m : Meaning) (s t : Sheet) (i j mask : ℕ) (same : t ≡ s) where
   pub refused-keeps : (refusal : Refusal) → ((L : Ledger) → Shows m s L → Answered m L (tie i j mask) (Err refusal)) →
       ((L : Ledger) → Shows m s L → TimelyTie m L i j mask (Err refusal)) → Keeps m s (tie i j mask) (Err refusal) t
-  refused-keeps refusal a d = record { answered = a; timely = d; shown = λ L w. rw same w; refused = same }
+  refused-keeps refusal a d = record { answered = a; timely = d; shown = λ L w. rw same w; refused = same; tried = tt }
 
   pub tried-keeps : (r : Result ℕ Refusal) → ((L : Ledger) → Shows m s L → Answered m L (tie i j mask) r) →
       ((L : Ledger) → Shows m s L → TimelyTie m L i j mask r) → Keeps m s (attempt i j mask) r t
-  tried-keeps (Ok n) a d = record { answered = a; timely = d; shown = λ L w. rw same w; refused = tt }
-  tried-keeps (Err refusal) a d = record { answered = a; timely = d; shown = λ L w. rw same w; refused = same }
+  tried-keeps (Ok n) a d = record { answered = a; timely = d; shown = λ L w. rw same w; refused = tt; tried = same }
+  tried-keeps (Err refusal) a d = record { answered = a; timely = d; shown = λ L w. rw same w; refused = same; tried = same }

@@ -6,9 +6,8 @@ use lib.ListN.{length, take, getD, set}
 use Rattle.std.proofs.shelf.Lists.{map-more, take-more-set, take-all}
 use Rattle.std.specs.declared.result.Result.{Result}
 use Rattle.algebra.specs.Meaning.{Meaning, Lawful}
-use Rattle.programme.specs.Ledgers.{Ledger, blank, Ask, Answered, after}
+use Rattle.programme.specs.Ledgers.{Ledger, blank, Ask, after}
 use Rattle.programme.specs.Shown.{Shows}
-use Rattle.programme.specs.Timely.{Timely}
 use Rattle.programme.specs.Kept.{Keeps}
 use Rattle.programme.specs.Performed.{Stage, Performed, ended, next, askOf, FromBlank}
 use Rattle.programme.proofs.Looking.{settled-set}
@@ -20,16 +19,16 @@ use Rattle.programme.specs.declared.sheets.Sheet.{Sheet}
 shown-last : {m : Meaning} {s t : Sheet} {L K : Ledger} {asks : List Ask} {answers : List (Result ℕ Refusal)} →
     Performed m s L asks answers t K → Shows m t K
 shown-last (ended x) = x .shown
-shown-last (next x a d p) = shown-last p
+shown-last (next x a p) = shown-last p
 
 stage : {m : Meaning} {s : Sheet} {L : Ledger} → Lawful m → Shows m s L → Stage m s L
 stage l w = record { shown = w; settled = λ i j x. settled-set _ _ _ w i j l x }
 
 then : {m : Meaning} {s t u : Sheet} {L K : Ledger} {asks : List Ask} {answers : List (Result ℕ Refusal)}
-    (ask : Ask) (r : Result ℕ Refusal) → Performed m s L asks answers t K → Answered m K ask r → Timely m K ask r →
+    (ask : Ask) (r : Result ℕ Refusal) → Performed m s L asks answers t K → Keeps m t ask r u →
     Stage m u (after K ask r) → Performed m s L (asks ++ (ask ∷ [])) (answers ++ (r ∷ [])) u (after K ask r)
-then ask r (ended x) a d y = next x a d (ended y)
-then ask r (next x b f p) a d y = next x b f (then ask r p a d y)
+then ask r (ended x) a y = next x a (ended y)
+then ask r (next x b p) a y = next x b (then ask r p a y)
 
 -- a line from its start to its end: n is the meaning of the algebra that the programme holds
 
@@ -45,7 +44,7 @@ line-more m n t u calls answers k call r same l h j e (s, K, p) k′ =
     let keeps = rw same at k′ in
     let asked = map-more askOf calls k call h ∙ ap (λ (c : Call). map askOf (take k calls) ++ (askOf c ∷ [])) (sym e) in
     let told = take-more-set answers k r j in
-    let line = then (askOf call) r p (keeps .answered K w) (keeps .timely K w) (stage l (keeps .shown K w)) in
+    let line = then (askOf call) r p keeps (stage l (keeps .shown K w)) in
     (s, after K (askOf call) r, rw (asked, told) line)
 
 pub line-all : (m n : Meaning) (t : Sheet) (calls : List Call) (answers : List (Result ℕ Refusal)) (k : ℕ) → n ≡ m →

@@ -115,6 +115,11 @@ abbrev pub WhenRefused : Result ℕ Refusal → Type 0 → Type 0
 WhenRefused (Ok n) P = Unit {0}
 WhenRefused (Err refusal) P = P
 
+abbrev pub WhenTried : Ask → Type 0 → Type 0
+WhenTried (enter name) P = Unit {0}
+WhenTried (tie first second mask) P = Unit {0}
+WhenTried (attempt first second mask) P = P
+
 -- a ledger has one answer to what is asked
 abbrev pub One-answer : Type 0
 One-answer =

@@ -7,9 +7,9 @@ use Rattle.std.specs.declared.result.Result.{Result}
 use Rattle.algebra.specs.Meaning.{Meaning}
 use Rattle.network.specs.Links.{Linked}
 use Rattle.programme.specs.Networks.{cell}
-use Rattle.programme.specs.Ledgers.{Ledger, blank, Ask, enter, tie, attempt, Answered, after}
+use Rattle.programme.specs.Ledgers.{Ledger, blank, Ask, enter, tie, attempt, after}
 use Rattle.programme.specs.Shown.{Shows}
-use Rattle.programme.specs.Timely.{Timely}
+use Rattle.programme.specs.Kept.{Keeps}
 use Rattle.programme.specs.Questions.{SettledSet}
 use Rattle.programme.specs.declared.lines.Call.{Call}
 use Rattle.programme.specs.declared.lines.Call.the-variants.{Entry, Tie, Try}
@@ -28,11 +28,11 @@ pub record Stage (m : Meaning) (s : Sheet) (L : Ledger) : Type 0 where
   pub settled : (i j : ℕ) → Linked (L .ties) i j → SettledSet m L i j (cell (s .network .sets) i j)
 
 -- What is asked in turn on the sheet s, which shows the ledger L, is answered in turn, and leads to the sheet u and the
--- ledger K. This is a stage of its own after the opening and after each call, and each answer is the ledger's.
+-- ledger K. There is a stage at the opening and after each call, and each call keeps to the ledger.
 pub data Performed (m : Meaning) : Sheet → Ledger → List Ask → List (Result ℕ Refusal) → Sheet → Ledger → Type 0 where
   ended : {s : Sheet} {L : Ledger} → Stage m s L → Performed m s L [] [] s L
   next : {s t u : Sheet} {L K : Ledger} {ask : Ask} {r : Result ℕ Refusal} {asks : List Ask} {answers : List (Result ℕ Refusal)} →
-      Stage m s L → Answered m L ask r → Timely m L ask r → Performed m t (after L ask r) asks answers u K →
+      Stage m s L → Keeps m s ask r t → Performed m t (after L ask r) asks answers u K →
       Performed m s L (ask ∷ asks) (r ∷ answers) u K
 
 -- what is asked in turn from the opening on is answered in turn, and leads to the sheet u

@@ -19,11 +19,11 @@ const ALL: u64 = (1 << ENTRIES) - 1;
 #[derive(Clone, Copy)]
 pub struct Network {
     /// Bit j of row i: i and j are linked.
-    links: [u64; 48],
+    links: [u64; ENTRIES],
     /// Bit j of row i, i below j: the triangles on this link are to be looked at again. None between calls.
-    pending: [u64; 48],
+    pending: [u64; ENTRIES],
     /// What may stand from i to j; the universe where they are not linked.
-    sets: [[ReadingSet; 48]; 48],
+    sets: [[ReadingSet; ENTRIES]; ENTRIES],
 }
 
 impl Network {
@@ -32,9 +32,9 @@ impl Network {
         ensures { λ r. ⌜ ((m : Meaning) → m .universe ≡ universe → Reflects m r []) ⌝ }
     {
         Network {
-            links: [0; 48],
-            pending: [0; 48],
-            sets: [[universe; 48]; 48],
+            links: [0; ENTRIES],
+            pending: [0; ENTRIES],
+            sets: [[universe; ENTRIES]; ENTRIES],
         }
     }
 

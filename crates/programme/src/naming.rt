@@ -23,7 +23,7 @@ pub(crate) struct Name {
     len: usize,
 }
 
-/// Two names are equal if all of their bytes are: derived equality would not say so of the bytes.
+/// Names are equal if their bytes and lengths are. This is written out, since a derived equality promises nothing of an array.
 pub impl PartialEq<Name> for Name as NamePartialEq {
     ghost equals = { λ a b r. Decides r (a ≡ b) };
 

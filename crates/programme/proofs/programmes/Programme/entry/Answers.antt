@@ -13,6 +13,7 @@ returns-then-knows g c = record {
     timely = λ L w. tt;
     shown = λ L w. w;
     refused = refl;
+    tried = tt;
   };
 }
 
@@ -29,5 +30,6 @@ returns g c = record {
         (c .if-not-printable .ensures tt .seen refl) (c .if-knows .ensures tt .absent refl) (c .if-number-ge-ENTRIES .left) _
         (c .enter .ensures);
     refused = tt;
+    tried = tt;
   };
 }
