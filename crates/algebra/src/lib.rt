@@ -1,4 +1,6 @@
 // Algebras of readings: what may stand between two entries of a sheet, which way round, and what follows from two steps.
+#![tactic(auto)]
+
 mod housed;
 mod instant;
 mod interface;

@@ -1,4 +1,6 @@
 // Cases of files: those that came with their answers, the example cut short and changed in many ways, buffers.
+#![tactic(auto)]
+
 mod calls;
 mod example;
 mod layout;

@@ -1,4 +1,6 @@
 // Answers that are known beforehand, proved together from the meanings.
+#![tactic(auto)]
+
 ghost use Rattle.known_answers.specs.Known.{Known};
 ghost use Rattle.known_answers.specs.Networks.{KnownLinks};
 

@@ -1,4 +1,6 @@
 // The listing of a sheet: as text, from a programme or from the bytes of a file.
+#![tactic(auto)]
+
 mod listings;
 mod pages;
 mod texts;

@@ -1,5 +1,7 @@
 // The theory of links between entries, as theorems: each is the contract of a function that does nothing, so that the check
 // of the crate fails without its proof.
+#![tactic(auto)]
+
 ghost use Rattle.network.specs.Statements.{OneGiven, Least, Sound, Unique, ClashShows};
 ghost use Rattle.network.specs.Statements.{Begins, Starts, Narrowing, Finishing, Implied, Weaker, Alike};
 ghost use Rattle.network.specs.Statements.{Complete, Consistent, Exact, Inhabited};

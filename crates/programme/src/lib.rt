@@ -1,4 +1,6 @@
 // A programme: an algebra, and a sheet of entries and ties that every tie closes.
+#![tactic(auto)]
+
 mod attempt;
 mod closing;
 mod fitting;

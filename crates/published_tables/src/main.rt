@@ -1,4 +1,6 @@
 // Compares the algebras with tables that were made independently, and tries the laws on many house rules.
+#![tactic(auto)]
+
 mod laws;
 mod published;
 

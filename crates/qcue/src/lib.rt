@@ -1,4 +1,6 @@
 // The file of a sheet: its records, reading the first, loading them all, writing them, and lines of calls with loads among them.
+#![tactic(auto)]
+
 mod heads;
 mod lines;
 mod loading;

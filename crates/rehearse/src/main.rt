@@ -1,4 +1,6 @@
 // Reads a script from standard input, one command a line, and prints each command with its answer.
+#![tactic(auto)]
+
 mod answer;
 mod command;
 mod session;

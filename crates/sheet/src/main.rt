@@ -1,4 +1,6 @@
 // Lists the file on standard input: prints its sheet, or why it is refused. A refusal ends with status 1.
+#![tactic(auto)]
+
 use anyhow::anyhow;
 use listing::{LONGEST_LISTED, page};
 use std::io::Read;

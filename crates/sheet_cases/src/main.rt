@@ -1,4 +1,6 @@
 // Cases of programmes: every refusal and the order of refusals, full sheets, both directions, repeated ties, links, tries, lines.
+#![tactic(auto)]
+
 mod cases;
 
 use algebra::{Instants, ReadingSet};

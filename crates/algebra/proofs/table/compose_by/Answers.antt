@@ -15,7 +15,7 @@ bounds-rows-rest g c =
 pub loop-rest-preserved : goal.loop-rest-preserved
 loop-rest-preserved g c =
     let less = others_less c.loop-rest.rest c.loop-rest-test.true in (
-      union_step c.loop-rest.rest _ c.loop-rest.sum _ _ c.loop-rest-test.true (search rules) c.union-at-sum.ensures c.loop-rest.invariant.0,
+      union_step c.loop-rest.rest _ c.loop-rest.sum _ _ c.loop-rest-test.true (search rules) c.union_at-sum.ensures c.loop-rest.invariant.0,
       omega arith,
     )
 

@@ -13,8 +13,8 @@ pub bounds-readings-rest : goal.bounds-readings-rest
 bounds-readings-rest g c =
     lowest_below g.row.N c.loop-rest.rest c.loop-rest-test.true (search rules) (omega arith)
 
-pub overflow-shl-sum : goal.overflow-shl-sum
-overflow-shl-sum g c =
+pub overflow_shl-sum : goal.overflow_shl-sum
+overflow_shl-sum g c =
     c.requires.readings (lowest c.loop-rest.rest)
     (lowest_below g.row.N c.loop-rest.rest c.loop-rest-test.true (search rules) (omega arith))
 

@@ -14,14 +14,14 @@ bounds-rows-rest g c =
 
 pub returns-then-target-sum : goal.returns-then-target-sum
 returns-then-target-sum g c =
-    part_all c.args.target (bit_or c.loop-rest.sum c.union-at-sum.result) _ c.if-target-sum.true
+    part_all c.args.target (bit_or c.loop-rest.sum c.union_at-sum.result) _ c.if-target-sum.true
     ∙ ap (bit_and c.args.target)
-    (union_step c.loop-rest.rest _ c.loop-rest.sum _ _ c.loop-rest-test.true (search rules) c.union-at-sum.ensures c.loop-rest.invariant.0)
+    (union_step c.loop-rest.rest _ c.loop-rest.sum _ _ c.loop-rest-test.true (search rules) c.union_at-sum.ensures c.loop-rest.invariant.0)
 
 pub loop-rest-preserved : goal.loop-rest-preserved
 loop-rest-preserved g c =
     let less = others_less c.loop-rest.rest c.loop-rest-test.true in (
-      union_step c.loop-rest.rest _ c.loop-rest.sum _ _ c.loop-rest-test.true (search rules) c.union-at-sum.ensures c.loop-rest.invariant.0,
+      union_step c.loop-rest.rest _ c.loop-rest.sum _ _ c.loop-rest-test.true (search rules) c.union_at-sum.ensures c.loop-rest.invariant.0,
       omega arith,
     )
 

@@ -9,7 +9,7 @@ returns-in-default g c = entry_missing _ _ _ _ (λ L w. (c.in-default.ensures.to
 pub returns : goal.returns
 returns g c =
     let placed =
-    c.in-ok-push-str.ensures.bytes
+    c.in_ok-push-str.ensures.bytes
     ∙ ap (λ (z : List ℕ). string_bytes c.args.text.now ++ z) c.as-str.ensures.value in
-    entry_added _ _ _ _ _ _ _ _ _ (λ L w. (c.in-Ok.ensures.told L w).1) c.in-ok-place.ensures placed
-    c.in-ok-push-ascii.ensures c.in-ok-push-str-2.ensures.bytes
+    entry_added _ _ _ _ _ _ _ _ _ (λ L w. (c.in-Ok.ensures.told L w).1) c.in_ok-place.ensures placed
+    c.in_ok-push_ascii.ensures c.in_ok-push-str-2.ensures.bytes

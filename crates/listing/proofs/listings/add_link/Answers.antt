@@ -19,13 +19,13 @@ returns g c =
       given = c.unwrap-or-given.result;
       settled = c.in-Some.settled;
     } in
-    let line = c.in-ok-line.ensures ∙ ap (λ (stamp : Stamp). link_line_of stamp.code row) c.stamp.ensures in
+    let line = c.in_ok-line.ensures ∙ ap (λ (stamp : Stamp). link_line_of stamp.code row) c.stamp.ensures in
     let pushed =
-    c.in-ok-push-str.ensures.bytes
+    c.in_ok-push-str.ensures.bytes
     ∙ ap (λ (z : List ℕ). string_bytes c.args.text.now ++ z) c.as-str.ensures.value in
     record {
-      few = c.count-tied.ensures.few;
+      few = c.count_tied.ensures.few;
       added =
           pair_some _ _ _ _ _ _ c.requires c.look.ensures c.unwrap-or.ensures _ _ _ _ _ _ _ c.in-Some.is
-          c.given.ensures c.unwrap-or-given.ensures line pushed c.count-tied.ensures.value;
+          c.given.ensures c.unwrap-or-given.ensures line pushed c.count_tied.ensures.value;
     }

@@ -8,7 +8,7 @@ loop-first-init g c = (omega arith, links_none _ _ _)
 
 pub loop-first-preserved : goal.loop-first-preserved
 loop-first-preserved g c =
-    let told = c.in-ok-tied.ensures in (
+    let told = c.in_ok-tied.ensures in (
       omega (arith, told.few, c.loop-first.invariant.0),
       links_more _ _ _ c.entries-first-end.ensures.counted _ _ _ _ _ _ c.loop-first-test.true c.loop-first.invariant.1
           told.added,

@@ -8,7 +8,7 @@ loop-second-init g c = (omega (arith, c.requires), omega arith, row_none _ _ _ _
 
 pub loop-second-preserved : goal.loop-second-preserved
 loop-second-preserved g c =
-    let told = c.in-ok-tied.ensures in (
+    let told = c.in_ok-tied.ensures in (
       omega (arith, c.entries-second-end.ensures.few),
       omega (arith, told.few, c.loop-second.invariant.1),
       row_more _ _ _ c.entries-second-end.ensures.counted _ _ _ _ _ _ _ c.loop-second-test.true c.loop-second.invariant.2

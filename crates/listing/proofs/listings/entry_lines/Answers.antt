@@ -8,7 +8,7 @@ loop-number-init g c L w = c.new-text.ensures.bytes
 pub loop-number-preserved : goal.loop-number-preserved
 loop-number-preserved g c =
     entries_more _ _ _ c.entries-number-end.ensures.counted _ _ _ c.loop-number-test.true c.loop-number.invariant
-    c.in-ok-add-entry.ensures
+    c.in_ok-add_entry.ensures
 
 pub returns : goal.returns
 returns g c =

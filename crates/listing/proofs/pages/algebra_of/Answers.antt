@@ -4,10 +4,10 @@ use Rattle.std.proofs.lemmas.Result.{err_from_is_err_and}
 use Rattle.listing.proofs.Opening.{always_named}
 use Rattle.listing.proofs.pages.algebra_of.Goals as goal
 
-pub returns-in-err-code : goal.returns-in-err-code
-returns-in-err-code c =
+pub returns-in_err-code : goal.returns-in_err-code
+returns-in_err-code c =
     let p = err_from_is_err_and c.from-residual.result c.from-residual.ensures.1 in
-    rw (p.1, p.2) c.in-err-code.ensures
+    rw (p.1, p.2) c.in_err-code.ensures
 
 pub returns-in-None : goal.returns-in-None
-returns-in-None c = absurd (always_named _ _ c.in-ok-code.ensures (sym c.by-code.ensures ∙ c.in-None.is))
+returns-in-None c = absurd (always_named _ _ c.in_ok-code.ensures (sym c.by_code.ensures ∙ c.in-None.is))

@@ -5,5 +5,5 @@ use Rattle.listing.proofs.texts.hex_text.Goals as goal
 
 pub returns : goal.returns
 returns c =
-    let digits = c.hex-digits.ensures in
-    c.in-ok-push-ascii.ensures (rw digits (hex_ascii c.args.number)) ∙ rw (c.new-text.ensures.bytes, digits) refl
+    let digits = c.hex_digits.ensures in
+    c.in_ok-push_ascii.ensures (rw digits (hex_ascii c.args.number)) ∙ rw (c.new-text.ensures.bytes, digits) refl

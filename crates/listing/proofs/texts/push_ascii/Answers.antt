@@ -5,7 +5,7 @@ use Rattle.listing.proofs.texts.push_ascii.Goals as goal
 
 pub loop-byte-preserved : goal.loop-byte-preserved
 loop-byte-preserved c low =
-    let told = c.in-ok-push.ensures in
+    let told = c.in_ok-push.ensures in
     let k = c.loop-byte.byte-index in
     let bytes = c.args.bytes.now in
     let small : c.from.result < 128 = omega (arith, c.from.ensures, low k c.loop-byte-test.true) in

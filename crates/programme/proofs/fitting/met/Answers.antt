@@ -7,8 +7,8 @@ use Rattle.algebra.specs.Bits.{has_below}
 use Rattle.programme.proofs.Meeting.{bit_tells}
 use Rattle.programme.proofs.fitting.met.Goals as goal
 
-pub overflow-shr-result : goal.overflow-shr-result
-overflow-shr-result g c =
+pub overflow_shr-result : goal.overflow_shr-result
+overflow_shr-result g c =
     has_below _ 32 c.in-Some.reading (g.met.B.Algebra.lawful c.args.algebra.now).fits
     c.in-Some.ensures.2.reading
 

@@ -10,24 +10,24 @@ returns-then-entries-ne0 g c = record {
   kept = occupied _ _ _ _ c.entries.ensures.counted c.if-entries-ne0.true;
 }
 
-pub returns-in-err-answer : goal.returns-in-err-answer
-returns-in-err-answer g c =
+pub returns-in_err-answer : goal.returns-in_err-answer
+returns-in_err-answer g c =
     let p = err_from_is_err_and c.from-residual.result c.from-residual.ensures.1 in
     let none : c.entries.result ≡ 0 = search rules in
     let copied = c.duplicate-copy.ensures in
-    let last = c.take-all.new.programme.sheet in
+    let last = c.take_all.new.programme.sheet in
     rw (p.1, p.2) (record {
       lent = refl;
       kept =
           refused_keeps _ _ _ _ c.entries.ensures.counted none last _
-          (takes_same _ _ _ _ _ last _ (ap g.B.Algebra.meaning copied.lent) copied.same c.in-err-answer.ensures.took);
+          (takes_same _ _ _ _ _ last _ (ap g.B.Algebra.meaning copied.lent) copied.same c.in_err-answer.ensures.took);
     })
 
 pub returns : goal.returns
 returns g c =
     let none : c.entries.result ≡ 0 = search rules in
     let copied = c.duplicate-copy.ensures in
-    let told = c.in-ok-answer.ensures in
+    let told = c.in_ok-answer.ensures in
     record {
       lent = told.lent ∙ copied.lent;
       kept =

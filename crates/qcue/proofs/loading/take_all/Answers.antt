@@ -32,8 +32,8 @@ returns-in-Err g c =
           told.took;
     }
 
-pub returns-then-not-is-empty : goal.returns-then-not-is-empty
-returns-then-not-is-empty g c =
+pub returns-then-not-is_empty : goal.returns-then-not-is_empty
+returns-then-not-is_empty g c =
     let inv = c.loop-loader.invariant in
     let ended : c.loop-loader.loader.expected ≡ Nothing = search rules in
     let some : length c.loop-loader.rest.now ≢ 0 = search rules in

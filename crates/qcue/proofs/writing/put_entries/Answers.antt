@@ -8,7 +8,7 @@ loop-number-init g c = (omega arith, entries_none _ _ _ _)
 
 pub loop-number-preserved : goal.loop-number-preserved
 loop-number-preserved g c =
-    let told = c.put-entry-at.ensures in (
+    let told = c.put_entry-at.ensures in (
       omega (arith, told.few, c.loop-number.invariant.0),
       entries_more _ _ _ c.entries-number-end.ensures.counted _ _ _ _ _ _ _ c.loop-number-test.true c.loop-number.invariant.1
           told.entered,

@@ -12,7 +12,7 @@ returns-then-mask-eq0 g c = record {
 
 pub returns : goal.returns
 returns g c =
-    let tied = put_same _ _ _ _ _ _ c.tie-record.ensures c.put.ensures in
+    let tied = put_same _ _ _ _ _ _ c.tie_record.ensures c.put.ensures in
     record {
       few = omega (arith, tied.ends);
       paired =

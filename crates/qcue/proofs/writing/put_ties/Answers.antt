@@ -8,7 +8,7 @@ loop-first-init g c = (omega arith, ties_none _ _ _ _)
 
 pub loop-first-preserved : goal.loop-first-preserved
 loop-first-preserved g c =
-    let told = c.put-row-at.ensures in (
+    let told = c.put_row-at.ensures in (
       omega (arith, told.few, c.loop-first.invariant.0),
       ties_more _ _ _ c.entries-first-end.ensures.counted _ _ _ _ _ _ _ c.loop-first-test.true c.loop-first.invariant.1
           told.paired,

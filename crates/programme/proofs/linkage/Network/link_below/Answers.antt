@@ -37,8 +37,8 @@ bounds-self-i c =
     let p = (c.loop-rest.invariant.0 _ w.there).0 in
     omega (arith, c.requires)
 
-pub link-each-requires : goal.link-each-requires
-link-each-requires c =
+pub link_each-requires : goal.link_each-requires
+link_each-requires c =
     let w = lowest_of c.loop-rest.rest c.loop-rest-test.true c.loop-rest.invariant.3 in
     let p = (c.loop-rest.invariant.0 _ w.there).0 in
     record {
@@ -52,7 +52,7 @@ pub loop-rest-preserved : goal.loop-rest-preserved
 loop-rest-preserved c =
     let s = c.args.self.now in
     let t = c.loop-rest.self in
-    let u = c.link-each.new.self in
+    let u = c.link_each.new.self in
     let rest = c.loop-rest.rest in
     let i = count_trailing_zeros 64 rest in
     let next = bit_and rest (rest - 1) in
@@ -69,9 +69,9 @@ loop-rest-preserved c =
     let part = λ (x : ℕ) (h : has missing x ≡ true). (has_cut next (2 ^ 64 - 1 - row) x h).0 in (
       λ x h. near x (w.fewer x h),
       row_grown s t u c.args.k i rest next missing w near c.loop-rest.invariant.1 c.loop-rest.invariant.2 part whole
-          c.link-each.ensures.grown c.link-each.ensures.all,
+          c.link_each.ensures.grown c.link_each.ensures.all,
       row_done s t u c.args.k i rest next missing w near c.loop-rest.invariant.1 c.loop-rest.invariant.2 part whole
-          c.link-each.ensures.grown c.link-each.ensures.all,
+          c.link_each.ensures.grown c.link_each.ensures.all,
       omega (arith, w.less, c.loop-rest.invariant.3),
     )
 

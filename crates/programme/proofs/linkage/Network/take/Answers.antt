@@ -8,8 +8,8 @@ use Rattle.programme.proofs.Bits.{some_bit, lowest_least}
 use Rattle.programme.proofs.Rows.{took_by, pending_none}
 use Rattle.programme.proofs.linkage.Network.take.Goals as goal
 
-pub overflow-sub-self : goal.overflow-sub-self
-overflow-sub-self c = let n = some_bit (get_or c.loop-i.self.pending c.loop-i.i 0) c.if-j-lt-ENTRIES.true in omega arith
+pub overflow_sub-self : goal.overflow_sub-self
+overflow_sub-self c = let n = some_bit (get_or c.loop-i.self.pending c.loop-i.i 0) c.if-j-lt-ENTRIES.true in omega arith
 
 pub returns-then-j-lt-ENTRIES : goal.returns-then-j-lt-ENTRIES
 returns-then-j-lt-ENTRIES c =

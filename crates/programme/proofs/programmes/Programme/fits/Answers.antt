@@ -33,18 +33,18 @@ loop-j-preserved g c = (
       ((this_pair g (goal.at.loop-j-preserved g c).After-met).0 c.if-not-met.false),
 )
 
-pub returns-then-not-all-things : goal.returns-then-not-all-things
-returns-then-not-all-things g c =
+pub returns-then-not-all_things : goal.returns-then-not-all_things
+returns-then-not-all_things g c =
     let law = g.met.B.Algebra.lawful c.args.self.now.algebra in
     let full = c.counted.ensures.0 c.if-not-counted.false in
     answer _ law _ _ _ _ c.numbers-size.ensures.measured c.numbers-size.ensures.value _ _ (Err NoThing)
-    (λ d L w. no_thing _ _ _ _ d _ L w _ full (c.all-things.ensures.other c.if-not-all-things.true))
+    (λ d L w. no_thing _ _ _ _ d _ L w _ full (c.all_things.ensures.other c.if-not-all_things.true))
 
 pub returns-after-rows : goal.returns-after-rows
 returns-after-rows g c =
     let law = g.met.B.Algebra.lawful c.args.self.now.algebra in
     let full = c.counted.ensures.0 c.if-not-counted.false in
-    let things = c.all-things.ensures.all c.if-not-all-things.false in
+    let things = c.all_things.ensures.all c.if-not-all_things.false in
     answer _ law _ _ _ _ c.numbers-size.ensures.measured c.numbers-size.ensures.value _ _ (Ok c.rows.first·)
     (λ d L w. none_unmet _ _ _ _ d _ L w _ full things _ c.rows.i c.rows.invariant.0 c.rows-test.false
     c.rows.invariant.1)
@@ -53,7 +53,7 @@ pub returns-then-not-met : goal.returns-then-not-met
 returns-then-not-met g c =
     let law = g.met.B.Algebra.lawful c.args.self.now.algebra in
     let full = c.counted.ensures.0 c.if-not-counted.false in
-    let things = c.all-things.ensures.all c.if-not-all-things.false in
+    let things = c.all_things.ensures.all c.if-not-all_things.false in
     let unclear = not_from_Decides _ (this_pair g (goal.at.returns-then-not-met g c).After-met) c.if-not-met.true in
     answer _ law _ _ _ _ c.numbers-size.ensures.measured c.numbers-size.ensures.value _ _
     (Ok (Some (c.rows.i, c.loop-j.j)))

@@ -9,5 +9,5 @@ returns g c = record {
   back = c.drop-attempt.ensures;
   kept =
       tried_keeps _ _ _ c.args.first c.args.second c.args.mask c.drop-attempt.ensures _
-      (λ L w. c.write-tie.ensures.answered L w (c.in-ok-allowed.ensures.told L w)) c.write-tie.ensures.timely;
+      (λ L w. c.write_tie.ensures.answered L w (c.in_ok-allowed.ensures.told L w)) c.write_tie.ensures.timely;
 }

@@ -4,22 +4,22 @@ use Rattle.std.proofs.lemmas.Result.{err_from_is_err_and}
 use Rattle.qcue.proofs.Steps.{few_more, refused, kept, passed, performed, denied}
 use Rattle.qcue.proofs.loading.Loader.take.Goals as goal
 
-pub returns-in-err-asked : goal.returns-in-err-asked
-returns-in-err-asked g c =
+pub returns-in_err-asked : goal.returns-in_err-asked
+returns-in_err-asked g c =
     let p = err_from_is_err_and c.from-residual.result c.from-residual.ensures.1 in
     rw (p.1, p.2) (record {
       lent = refl;
       long = tt;
       few = tt;
       took = λ L w a.
-          refused _ _ _ _ _ _ c.stamp.ensures c.entries.ensures.counted L w a _ c.in-err-asked.ensures;
+          refused _ _ _ _ _ _ c.stamp.ensures c.entries.ensures.counted L w a _ c.in_err-asked.ensures;
     })
 
-pub returns-in-err-perform : goal.returns-in-err-perform
-returns-in-err-perform g c =
-    let p = err_from_is_err_and c.from-residual-in-err-perform.result c.from-residual-in-err-perform.ensures.1 in
-    let step = c.in-ok-asked.ensures in
-    let told = c.in-err-perform.ensures in
+pub returns-in_err-perform : goal.returns-in_err-perform
+returns-in_err-perform g c =
+    let p = err_from_is_err_and c.from-residual-in_err-perform.result c.from-residual-in_err-perform.ensures.1 in
+    let step = c.in_ok-asked.ensures in
+    let told = c.in_err-perform.ensures in
     rw (p.1, p.2) (record {
       lent = told.lent;
       long = tt;
@@ -30,10 +30,10 @@ returns-in-err-perform g c =
       );
     })
 
-pub returns-in-ok-perform : goal.returns-in-ok-perform
-returns-in-ok-perform g c =
-    let step = c.in-ok-asked.ensures in
-    let told = c.in-ok-perform.ensures in
+pub returns-in_ok-perform : goal.returns-in_ok-perform
+returns-in_ok-perform g c =
+    let step = c.in_ok-asked.ensures in
+    let told = c.in_ok-perform.ensures in
     record {
       lent = told.lent;
       long = (step.whole, step.long);
@@ -46,7 +46,7 @@ returns-in-ok-perform g c =
 
 pub returns-in-None : goal.returns-in-None
 returns-in-None g c =
-    let step = c.in-ok-asked.ensures in
+    let step = c.in_ok-asked.ensures in
     record {
       lent = refl;
       long = (step.whole, step.long);
