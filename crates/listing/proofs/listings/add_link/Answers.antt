@@ -5,10 +5,10 @@ use Rattle.listing.specs.Listed.{LinkRow, link_line_of}
 use Rattle.listing.proofs.Adding.{pair_none, pair_some}
 use Rattle.listing.proofs.listings.add_link.Goals as goal
 
-pub returns-in-default : goal.returns-in-default
-returns-in-default g c = record {
+pub returns-in_default : goal.returns-in_default
+returns-in_default g c = record {
   few = search rules;
-  added = pair_none _ _ _ _ _ _ c.requires c.look.ensures c.unwrap-or.ensures _ c.in-default.is;
+  added = pair_none _ _ _ _ _ _ c.requires c.look.ensures c.unwrap_or.ensures _ c.in_default.is;
 }
 
 pub returns : goal.returns
@@ -16,16 +16,16 @@ returns g c =
     let row : LinkRow = record {
       first = c.args.first;
       second = c.args.second;
-      given = c.unwrap-or-given.result;
+      given = c.unwrap_or-given.result;
       settled = c.in-Some.settled;
     } in
     let line = c.in_ok-line.ensures ∙ ap (λ (stamp : Stamp). link_line_of stamp.code row) c.stamp.ensures in
     let pushed =
-    c.in_ok-push-str.ensures.bytes
-    ∙ ap (λ (z : List ℕ). string_bytes c.args.text.now ++ z) c.as-str.ensures.value in
+    c.in_ok-push_str.ensures.bytes
+    ∙ ap (λ (z : List ℕ). string_bytes c.args.text.now ++ z) c.as_str.ensures.value in
     record {
       few = c.count_tied.ensures.few;
       added =
-          pair_some _ _ _ _ _ _ c.requires c.look.ensures c.unwrap-or.ensures _ _ _ _ _ _ _ c.in-Some.is
-          c.given.ensures c.unwrap-or-given.ensures line pushed c.count_tied.ensures.value;
+          pair_some _ _ _ _ _ _ c.requires c.look.ensures c.unwrap_or.ensures _ _ _ _ _ _ _ c.in-Some.is
+          c.given.ensures c.unwrap_or-given.ensures line pushed c.count_tied.ensures.value;
     }

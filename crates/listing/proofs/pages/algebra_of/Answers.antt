@@ -6,7 +6,7 @@ use Rattle.listing.proofs.pages.algebra_of.Goals as goal
 
 pub returns-in_err-code : goal.returns-in_err-code
 returns-in_err-code c =
-    let p = err_from_is_err_and c.from-residual.result c.from-residual.ensures.1 in
+    let p = err_from_is_err_and c.from_residual.result c.from_residual.ensures.1 in
     rw (p.1, p.2) c.in_err-code.ensures
 
 pub returns-in-None : goal.returns-in-None

@@ -6,18 +6,18 @@ use Rattle.listing.proofs.Opening.{file_refused, file_listed}
 use Rattle.listing.proofs.pages.page.Goals as goal
 
 pub returns-in-Err : goal.returns-in-Err
-returns-in-Err c = (c.if-bytes-gt-LONGEST-LISTED.false, inl c.in-Err.ensures)
+returns-in-Err c = (c.if-bytes-gt-LONGEST_LISTED.false, inl c.in-Err.ensures)
 
 pub returns-in-Err-load : goal.returns-in-Err-load
 returns-in-Err-load c =
     let opened = c.open-programme.ensures in
-    file_refused _ _ _ (ap (λ a. housed (meaning_of a.below) a.mask) opened.lent) c.if-bytes-gt-LONGEST-LISTED.false
+    file_refused _ _ _ (ap (λ a. housed (meaning_of a.below) a.mask) opened.lent) c.if-bytes-gt-LONGEST_LISTED.false
     c.in-Ok.ensures _ _ opened.shown _ c.in-Err-load.ensures.kept
 
 pub returns-in_ok-listing : goal.returns-in_ok-listing
 returns-in_ok-listing c =
     let opened = c.open-programme.ensures in
     let told = c.in-Ok-load.ensures in
-    file_listed _ _ _ (ap (λ a. housed (meaning_of a.below) a.mask) opened.lent) c.if-bytes-gt-LONGEST-LISTED.false
+    file_listed _ _ _ (ap (λ a. housed (meaning_of a.below) a.mask) opened.lent) c.if-bytes-gt-LONGEST_LISTED.false
     c.in-Ok.ensures _ _ opened.shown _ _ _ (ap (λ a. housed (meaning_of a.below) a.mask) told.lent) told.kept
     c.in_ok-listing.ensures

@@ -17,5 +17,5 @@ loop-i-preserved g c ties r =
 pub returns : goal.returns
 returns g c ties r =
     let m = g.B.Algebra.meaning c.args.algebra.now in
-    let p = c.in-default.ensures in
+    let p = c.in_default.ensures in
     at_rest m ties c.loop-i.network (c.loop-i.invariant ties r) p.1 c.take.new.self p.0

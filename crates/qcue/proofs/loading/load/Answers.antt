@@ -12,7 +12,7 @@ returns-then-entries-ne0 g c = record {
 
 pub returns-in_err-answer : goal.returns-in_err-answer
 returns-in_err-answer g c =
-    let p = err_from_is_err_and c.from-residual.result c.from-residual.ensures.1 in
+    let p = err_from_is_err_and c.from_residual.result c.from_residual.ensures.1 in
     let none : c.entries.result ≡ 0 = search rules in
     let copied = c.duplicate-copy.ensures in
     let last = c.take_all.new.programme.sheet in

@@ -3,10 +3,10 @@ use Rattle.std.proofs.Common.{length, ap, arith}
 use Rattle.qcue.proofs.Laying.{entry_missing, entry_put}
 use Rattle.qcue.proofs.writing.put_entry.Goals as goal
 
-pub returns-in-default : goal.returns-in-default
-returns-in-default g c = record {
+pub returns-in_default : goal.returns-in_default
+returns-in_default g c = record {
   few = omega arith;
-  entered = entry_missing _ _ _ _ _ (λ L w. (c.in-default.ensures.told L w).1);
+  entered = entry_missing _ _ _ _ _ (λ L w. (c.in_default.ensures.told L w).1);
 }
 
 pub returns : goal.returns

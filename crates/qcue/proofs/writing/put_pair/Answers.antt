@@ -7,7 +7,7 @@ use Rattle.qcue.proofs.writing.put_pair.Goals as goal
 pub returns-then-mask-eq0 : goal.returns-then-mask-eq0
 returns-then-mask-eq0 g c = record {
   few = omega arith;
-  paired = pair_none _ _ _ _ _ _ c.requires.1.0 c.given.ensures c.unwrap-or-mask.ensures _ _ c.if-mask-eq0.true;
+  paired = pair_none _ _ _ _ _ _ c.requires.1.0 c.given.ensures c.unwrap_or-mask.ensures _ _ c.if-mask-eq0.true;
 }
 
 pub returns : goal.returns
@@ -16,5 +16,5 @@ returns g c =
     record {
       few = omega (arith, tied.ends);
       paired =
-          pair_some _ _ _ _ _ _ c.requires.1.0 c.given.ensures c.unwrap-or-mask.ensures _ _ _ _ c.if-mask-eq0.false tied;
+          pair_some _ _ _ _ _ _ c.requires.1.0 c.given.ensures c.unwrap_or-mask.ensures _ _ _ _ c.if-mask-eq0.false tied;
     }

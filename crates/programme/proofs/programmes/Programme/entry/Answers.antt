@@ -8,7 +8,7 @@ returns-then-knows g c = record {
   lent = refl;
   kept = record {
     answered = λ L w.
-        known_answered _ _ L w _ _ c.of-held.ensures c.if-name-eq0.false c.if-name-gt-NAME-BYTES.false
+        known_answered _ _ L w _ _ c.of-held.ensures c.if-name-eq0.false c.if-name-gt-NAME_BYTES.false
         (c.if-not-printable.ensures.seen refl) (c.if-knows.ensures.there refl);
     timely = λ L w. tt;
     shown = λ L w. w;
@@ -22,11 +22,11 @@ returns g c = record {
   lent = refl;
   kept = record {
     answered = λ L w.
-        entered_answered _ _ L w _ _ c.of-held.ensures c.if-name-eq0.false c.if-name-gt-NAME-BYTES.false
+        entered_answered _ _ L w _ _ c.of-held.ensures c.if-name-eq0.false c.if-name-gt-NAME_BYTES.false
         (c.if-not-printable.ensures.seen refl) (c.if-knows.ensures.absent refl) c.if-number-ge-ENTRIES.false;
     timely = λ L w. tt;
     shown = λ L w.
-        entered_shows _ _ L w _ _ c.of-held.ensures c.if-name-eq0.false c.if-name-gt-NAME-BYTES.false
+        entered_shows _ _ L w _ _ c.of-held.ensures c.if-name-eq0.false c.if-name-gt-NAME_BYTES.false
         (c.if-not-printable.ensures.seen refl) (c.if-knows.ensures.absent refl) c.if-number-ge-ENTRIES.false _
         c.enter.ensures;
     refused = tt;

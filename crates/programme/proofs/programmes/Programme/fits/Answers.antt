@@ -45,7 +45,7 @@ returns-after-rows g c =
     let law = g.met.B.Algebra.lawful c.args.self.now.algebra in
     let full = c.counted.ensures.0 c.if-not-counted.false in
     let things = c.all_things.ensures.all c.if-not-all_things.false in
-    answer _ law _ _ _ _ c.numbers-size.ensures.measured c.numbers-size.ensures.value _ _ (Ok c.rows.first·)
+    answer _ law _ _ _ _ c.numbers-size.ensures.measured c.numbers-size.ensures.value _ _ (Ok c.rows.first-1)
     (λ d L w. none_unmet _ _ _ _ d _ L w _ full things _ c.rows.i c.rows.invariant.0 c.rows-test.false
     c.rows.invariant.1)
 

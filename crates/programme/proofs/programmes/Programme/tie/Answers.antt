@@ -6,7 +6,7 @@ use Rattle.programme.proofs.programmes.Programme.tie.Goals as goal
 
 pub returns-in_err-reply : goal.returns-in_err-reply
 returns-in_err-reply g c =
-    let p = err_from_is_err_and c.from-residual-in_err-reply.result c.from-residual-in_err-reply.ensures.1 in
+    let p = err_from_is_err_and c.from_residual-in_err-reply.result c.from_residual-in_err-reply.ensures.1 in
     let told = c.in_err-reply.ensures in
     let m = g.B.Algebra.meaning c.args.self.now.algebra in
     record {

@@ -6,7 +6,7 @@ use Rattle.qcue.proofs.loading.Loader.take.Goals as goal
 
 pub returns-in_err-asked : goal.returns-in_err-asked
 returns-in_err-asked g c =
-    let p = err_from_is_err_and c.from-residual.result c.from-residual.ensures.1 in
+    let p = err_from_is_err_and c.from_residual.result c.from_residual.ensures.1 in
     rw (p.1, p.2) (record {
       lent = refl;
       long = tt;
@@ -17,7 +17,7 @@ returns-in_err-asked g c =
 
 pub returns-in_err-perform : goal.returns-in_err-perform
 returns-in_err-perform g c =
-    let p = err_from_is_err_and c.from-residual-in_err-perform.result c.from-residual-in_err-perform.ensures.1 in
+    let p = err_from_is_err_and c.from_residual-in_err-perform.result c.from_residual-in_err-perform.ensures.1 in
     let step = c.in_ok-asked.ensures in
     let told = c.in_err-perform.ensures in
     rw (p.1, p.2) (record {
