@@ -87,8 +87,8 @@ span_reads g h a (x, e) (y, f) s =
 -- one of three readings, as one number is smaller than another, equal or greater
 pub by_order : (P : ℕ → Type 0) (p q : ℤ) (r a b c : ℕ) → (p <ℤ q → r ≡ a) → (p ≡ q → r ≡ b) → (q <ℤ p → r ≡ c) →
     (p <ℤ q → P a) → (p ≡ q → P b) → (q <ℤ p → P c) → P r
-by_order P p q r a b c is-a is_b is_c f g h =
+by_order P p q r a b c is_a is_b is_c f g h =
     elim (trichotomy p q) [
       | inl e ↦ rw (is_b e) (g e)
-      | inr o ↦ elim o [ inl l ↦ rw (is-a l) (f l) | inr m ↦ rw (is_c m) (h m) ]
+      | inr o ↦ elim o [ inl l ↦ rw (is_a l) (f l) | inr m ↦ rw (is_c m) (h m) ]
     ]

@@ -51,8 +51,8 @@ module _ (m : Meaning) (Thing : Type 0) (Stand : ℕ → Relation Thing) (d : De
 
   -- a composition with just the one reading b is that reading's mask
   alone : (p b : ℕ) → ((c : ℕ) → has p c ≡ true → b ≡ c) → has p b ≡ true → p ≡ 2 ^ b
-  alone p b only-b there =
-      same _ _ (λ c. iff _ _ (λ t. has_one b c ∙ eq-eqb b c (only-b c t))
+  alone p b only_b there =
+      same _ _ (λ c. iff _ _ (λ t. has_one b c ∙ eq-eqb b c (only_b c t))
       (λ t. subst (λ k. has p k ≡ true) (eqb-true b c (sym (has_one b c) ∙ t)) there))
 
   module _ (fits : m.universe < 2 ^ 32) (zero_in : Reading m 0) where

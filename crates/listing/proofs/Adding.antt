@@ -10,7 +10,7 @@ use Rattle.algebra.specs.declared.interface.Stamp.{Stamp}
 use Rattle.network.specs.Links.{Linked}
 use Rattle.network.proofs.Links.{linked?, apart, one_given}
 use Rattle.programme.specs.Ledgers.{Ledger, blank}
-use Rattle.programme.specs.Grown.{naming}
+use Rattle.programme.specs.Grown.{naming, Orderly}
 use Rattle.programme.specs.Questions.{Told, ToldAs, Seen, Looked}
 use Rattle.programme.specs.Shown.{Shows}
 use Rattle.programme.specs.declared.refusals.Refusal.{Refusal}
@@ -18,7 +18,7 @@ use Rattle.programme.specs.declared.refusals.Refusal.TheVariants.{Unprintable}
 use Rattle.programme.specs.declared.sheets.Sheet.{Sheet}
 use Rattle.programme.proofs.Growing.{each_entered}
 use Rattle.programme.proofs.Pairs.{rows_one, rows_none, rows_more, rows_past, rows_row, rows_all}
-use Rattle.listing.specs.Listed.{LinkRow, sheet_line_of, entry_line_of, entry_lines_of, link_line_of, IsLink, tied, tied as tiedOf, ListingOf, OneListing}
+use Rattle.listing.specs.Listed.{LinkRow, sheet_line_of, entry_line_of, entry_lines_of, link_line_of, IsLink, tied, tied as tied_of, ListingOf, OneListing}
 use Rattle.listing.specs.Added.{EntryAdded, LinksTo, NextLinks, RowsAdded, PairAdded, RowAdded, LinksAdded}
 
 -- ---- lines one behind the other
@@ -59,9 +59,9 @@ entries_push k (x ∷ names) name =
     ∙ sym (append_assoc (entry_line_of k x) (entry_lines_of (k + 1) names) (entry_line_of (k + suc (length names)) name))
 
 -- a name that was taken is ASCII
-ascii : (m : Meaning) (s : Sheet) (L : Ledger) (k : ℕ) → Shows m s L → k < length L.names → Ascii (get_or L.names k [])
-ascii m s L k w h i lt =
-    let (J, n, a) = each_entered m blank (naming L.names) L.names w.orderly.entered k h in
+ascii : (m : Meaning) (L : Ledger) (k : ℕ) → Orderly m L → k < length L.names → Ascii (get_or L.names k [])
+ascii m L k o h i lt =
+    let (J, n, a) = each_entered m blank (naming L.names) L.names o.entered k h in
     elim (cases_lt 0x7E (get_or (get_or L.names k []) i 0)) [
       | inl high ↦ absurd (a.1 Unprintable (i, lt, inr high))
       | inr low ↦ omega arith
@@ -69,23 +69,23 @@ ascii m s L k w h i lt =
 
 module _ (m : Meaning) (s : Sheet) where
   pub entry_missing : (k : ℕ) (old : List ℕ) → ((L : Ledger) → Shows m s L → length L.names ≤ k) → EntryAdded m s k old old
-  entry_missing k old none L w h = absurd (omega (arith, none L w))
+  entry_missing k old none L w o h = absurd (omega (arith, none L w))
 
   pub entry_added : (k : ℕ) (name place old a b new : List ℕ) → ((L : Ledger) → Shows m s L → name ≡ get_or L.names k []) →
       place ≡ decimal k ++ codes " " → a ≡ old ++ place → (Ascii name → b ≡ a ++ name) → new ≡ b ++ codes "\n" →
       EntryAdded m s k old new
-  entry_added k name place old a b new is placed e f g L w h =
-      let name-is = is L w in
-      let low : Ascii name = rw name-is (ascii m s L k w h) in
+  entry_added k name place old a b new is placed e f g L w o h =
+      let name_is = is L w in
+      let low : Ascii name = rw name_is (ascii m L k o h) in
       g ∙ ap (λ (z : List ℕ). z ++ codes "\n") (f low ∙ ap (λ (z : List ℕ). z ++ name) (e ∙ ap (λ (z : List ℕ). old ++ z) placed))
       ∙ append_assoc (old ++ (decimal k ++ codes " ")) name (codes "\n")
       ∙ append_assoc old (decimal k ++ codes " ") (name ++ codes "\n")
       ∙ ap (λ (z : List ℕ). old ++ z)
-      (append_assoc (decimal k) (codes " ") (name ++ codes "\n") ∙ ap (λ (z : List ℕ). entry_line_of k z) name-is)
+      (append_assoc (decimal k) (codes " ") (name ++ codes "\n") ∙ ap (λ (z : List ℕ). entry_line_of k z) name_is)
 
   -- the lines of the first k entries
   abbrev pub EntriesTo : ℕ → List ℕ → Type 0
-  EntriesTo k text = (L : Ledger) → Shows m s L → text ≡ entry_lines_of 0 (take k L.names)
+  EntriesTo k text = (L : Ledger) → Shows m s L → Orderly m L → text ≡ entry_lines_of 0 (take k L.names)
 
   -- ---- links
 
@@ -118,9 +118,9 @@ module _ (m : Meaning) (s : Sheet) where
         ((L : Ledger) → Shows m s L → ToldAs m L i j t) → given ≡ result_unwrap_or t 0 →
         line ≡ link_line_of m.stamp.code (record { first = i; second = j; given = given; settled = set }) → new ≡ old ++ line →
         n ≡ cond (eqb given 0) 0 1 → PairAdded m s i j old new n
-    pair_some set given t line old new n some told given_is line-is e count = record {
+    pair_some set given t line old new n some told given_is line_is e count = record {
       rows = row ∷ [];
-      added = record { lines = rw (append-nil, ← line-is) e; counted = count };
+      added = record { lines = rw (append-nil, ← line_is) e; counted = count };
       next = λ L w h before u. rows_more _ _ _ _ u row (refl, refl) (is_link L w h);
     }
       where
@@ -138,7 +138,7 @@ module _ (m : Meaning) (s : Sheet) where
         is_link : (L : Ledger) → Shows m s L → j < length L.names → IsLink m L row
         is_link L w h =
             let x = linked L w h in
-            let (found, some-found, settled) = (there L w h).linked x in
+            let (found, some_found, settled) = (there L w h).linked x in
             let same : found ≡ set = cc in
             record {
               smaller = lt;
@@ -180,15 +180,16 @@ module _ (m : Meaning) (s : Sheet) where
 
   module _ (n : ℕ) (counted : (L : Ledger) → Shows m s L → n ≡ length L.names) where
     pub entries_more : (k : ℕ) (old new : List ℕ) → k < n → EntriesTo k old → EntryAdded m s k old new → EntriesTo (k + 1) new
-    entries_more k old new h p q L w =
+    entries_more k old new h p q L w o =
         let lt : k < length L.names = omega (arith, counted L w) in
         let long : length (take k L.names) ≡ k = length-take-le k L.names (omega arith) in
-        q L w lt ∙ rw (p L w, take_more L.names k [] lt, entries_push 0 (take k L.names) (get_or L.names k []), long, zero-add k) refl
+        q L w o lt ∙ rw (p L w o, take_more L.names k [] lt, entries_push 0 (take k L.names) (get_or L.names k []), long, zero-add k) refl
 
-    pub entries_all : (k : ℕ) (text : List ℕ) → n ≤ k → EntriesTo k text → (L : Ledger) → Shows m s L → text ≡ entry_lines_of 0 L.names
-    entries_all k text h p L w =
+    pub entries_all : (k : ℕ) (text : List ℕ) → n ≤ k → EntriesTo k text → (L : Ledger) → Shows m s L → Orderly m L →
+        text ≡ entry_lines_of 0 L.names
+    entries_all k text h p L w o =
         let le : length L.names ≤ k = omega (arith, counted L w) in
-        p L w ∙ ap (entry_lines_of 0) (take_all k L.names le)
+        p L w o ∙ ap (entry_lines_of 0) (take_all k L.names le)
 
     pub row_more : (i j : ℕ) (old mid new : List ℕ) (a b : ℕ) → j < n → RowTo i j old mid a → PairAdded m s i j mid new b →
         RowTo i (j + 1) old new (a + b)
@@ -228,13 +229,14 @@ module _ (m : Meaning) (s : Sheet) where
     -- ---- the whole
 
     pub listed : (stamp : Stamp) (tied : ℕ) (none head entries links a text : List ℕ) → stamp ≡ m.stamp → none ≡ [] →
-        head ≡ sheet_line_of stamp n tied → ((L : Ledger) → Shows m s L → entries ≡ entry_lines_of 0 L.names) →
-        LinksAdded m s none links tied → a ≡ head ++ entries → text ≡ a ++ links → (L : Ledger) → Shows m s L → ListingOf m L text
-    listed stamp tied none head entries links a text is nothing head-is lines p e f L w = (
+        head ≡ sheet_line_of stamp n tied → ((L : Ledger) → Shows m s L → Orderly m L → entries ≡ entry_lines_of 0 L.names) →
+        LinksAdded m s none links tied → a ≡ head ++ entries → text ≡ a ++ links → (L : Ledger) → Shows m s L → Orderly m L →
+        ListingOf m L text
+    listed stamp tied none head entries links a text is nothing head_is lines p e f L w o = (
       p.rows,
       p.links L w,
-      f ∙ rw (e, head-is, is, lines L w, p.added.lines, nothing, counted L w, p.added.counted)
-          (append_assoc (sheet_line_of m.stamp (length L.names) (tiedOf p.rows)) (entry_lines_of 0 L.names)
+      f ∙ rw (e, head_is, is, lines L w o, p.added.lines, nothing, counted L w, p.added.counted)
+          (append_assoc (sheet_line_of m.stamp (length L.names) (tied_of p.rows)) (entry_lines_of 0 L.names)
           (flat_map (link_line_of m.stamp.code) p.rows)),
     )
 

@@ -7,13 +7,15 @@ use Rattle.algebra.specs.Standard.{meaning_of, standard_of}
 use Rattle.algebra.specs.declared.interface.Stamp.{Stamp}
 use Rattle.algebra.specs.declared.standards.Standard.{Standard}
 use Rattle.programme.specs.Ledgers.{Ledger, blank}
+use Rattle.programme.specs.Grown.{Orderly}
 use Rattle.programme.specs.Shown.{Shows}
 use Rattle.programme.specs.declared.sheets.Sheet.{Sheet}
+use Rattle.programme.proofs.Growing.{blank_orderly}
 use Rattle.qcue.specs.Headed.{StandardCode, Headed}
 use Rattle.qcue.specs.Performed.{LoadKeeps}
 use Rattle.qcue.specs.declared.refusals.Fault.{Fault}
 use Rattle.qcue.specs.declared.refusals.FileRefusal.TheVariants.{Misplaced, OtherStamp}
-use Rattle.qcue.proofs.Determined.{loads_zero}
+use Rattle.qcue.proofs.Determined.{loads_zero, load_orderly}
 use Rattle.listing.specs.Listed.{ListingOf}
 use Rattle.listing.specs.Paged.{Opened, RefusedAs, ListedAs}
 use Rattle.listing.specs.declared.pages.Refused.TheVariants.{File}
@@ -49,7 +51,7 @@ module _ (bytes : List ℕ) (m n : Meaning) (same : n ≡ m) (short : length byt
       (short, inr (record { m = m; opened = named; last = K; refused = h }))
 
   pub file_listed : (k : ℕ) (text : List ℕ) (q : Meaning) → q ≡ n → LoadKeeps n s bytes (Ok k) t →
-      ((L : Ledger) → Shows q t L → ListingOf q L text) → ListedAs bytes text
+      ((L : Ledger) → Shows q t L → Orderly q L → ListingOf q L text) → ListedAs bytes text
   file_listed k text q still keeps lists =
       let (K, h, w) = (rw same at keeps).answered blank shown in
       let zero = loads_zero k h refl in
@@ -59,5 +61,5 @@ module _ (bytes : List ℕ) (m n : Meaning) (same : n ≡ m) (short : length byt
         opened = named;
         K = K;
         loaded = rw zero at h;
-        listing = (rw (still, same) at lists) K w;
+        listing = (rw (still, same) at lists) K w (load_orderly h (blank_orderly m));
       }

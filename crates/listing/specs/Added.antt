@@ -4,15 +4,16 @@ use Rattle.std.specs.List.{flat_map}
 use Rattle.algebra.specs.Meaning.{Meaning}
 use Rattle.network.specs.Links.{Linked}
 use Rattle.programme.specs.Ledgers.{Ledger}
+use Rattle.programme.specs.Grown.{Orderly}
 use Rattle.programme.specs.Pairs.{RowsTo}
 use Rattle.programme.specs.Shown.{Shows}
 use Rattle.programme.specs.declared.sheets.Sheet.{Sheet}
 use Rattle.listing.specs.Listed.{LinkRow, entry_line_of, link_line_of, IsLink, Links, tied}
 
--- the line of the entry with this number
+-- the line of the entry with this number, of a ledger that calls led to
 abbrev pub EntryAdded : Meaning → Sheet → ℕ → List ℕ → List ℕ → Type 0
 EntryAdded m s k old new =
-    (L : Ledger) → Shows m s L → k < length L.names → new ≡ old ++ entry_line_of k (slice_index_or L.names k [])
+    (L : Ledger) → Shows m s L → Orderly m L → k < length L.names → new ≡ old ++ entry_line_of k (slice_index_or L.names k [])
 
 -- the rows are the links that come before the pair of i and j
 abbrev pub LinksTo : Meaning → Ledger → ℕ → ℕ → List LinkRow → Type 0

@@ -1,6 +1,7 @@
 // The listing of a programme.
 ghost use Rattle.std.specs.Prelude.{◌≡◌, ◌<◌, ◌≤◌, IfOk, if◌then◌else◌, string_bytes, OnOk, nat_eq};
 ghost use Rattle.programme.specs.Ledgers.{Ledger};
+ghost use Rattle.programme.specs.Grown.{Orderly};
 ghost use Rattle.programme.specs.Shown.{Shows};
 ghost use Rattle.listing.specs.Listed.{entry_lines_of, ListingOf};
 ghost use Rattle.listing.specs.Added.{EntryAdded, PairAdded, RowAdded, LinksAdded};
@@ -34,6 +35,7 @@ fn add_entry<B: Algebra>(
 fn entry_lines<B: Algebra>(heap: Global, programme: &Programme<B>) -> Result<String, AllocError>
     ensures { IfOk result (λ text. (L : Ledger) →
         Shows (B.Algebra.meaning programme.now.algebra) programme.now.sheet L →
+        Orderly (B.Algebra.meaning programme.now.algebra) L →
         string_bytes text ≡ entry_lines_of 0 L.names) }
 {
     let mut text = String::new(heap);
@@ -112,6 +114,7 @@ fn add_links<B: Algebra>(
 pub fn listing<B: Algebra>(heap: Global, programme: &Programme<B>) -> Result<String, AllocError>
     ensures { IfOk result (λ text. (L : Ledger) →
         Shows (B.Algebra.meaning programme.now.algebra) programme.now.sheet L →
+        Orderly (B.Algebra.meaning programme.now.algebra) L →
         ListingOf (B.Algebra.meaning programme.now.algebra) L (string_bytes text)) }
 {
     let entries = entry_lines(heap, programme)?;

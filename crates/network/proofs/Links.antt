@@ -33,9 +33,9 @@ least ties L f g h i j (filled d x y l k) = h _ _ _ d x y (least ties L f g h _ 
 
 -- ---- tied pairs
 
-some-tie? : (P : Tie → Type 0) → ((t : Tie) → Dec (P t)) → (ties : List Tie) → Dec ((t : Tie) × Among t ties × P t)
-some-tie? P d [] = no (λ w. Memᴰ.not-nil w.1)
-some-tie? P d (u ∷ ties) = go (d u) (some-tie? P d ties)
+some_tie? : (P : Tie → Type 0) → ((t : Tie) → Dec (P t)) → (ties : List Tie) → Dec ((t : Tie) × Among t ties × P t)
+some_tie? P d [] = no (λ w. Memᴰ.not-nil w.1)
+some_tie? P d (u ∷ ties) = go (d u) (some_tie? P d ties)
   where
     go : Dec (P u) → Dec ((t : Tie) × Among t ties × P t) → Dec ((t : Tie) × Among t (u ∷ ties) × P t)
     go (yes x) w = yes (u, Memᴰ.head refl, x)
@@ -60,7 +60,7 @@ joins? : (i j : ℕ) (t : Tie) → Dec (Joins t i j)
 joins? i j t = both? (ℕ_discrete t.first i) (ℕ_discrete t.second j)
 
 pub tied? : (ties : List Tie) (i j : ℕ) → Dec (Tied ties i j)
-tied? ties i j = some-tie? (λ t. Joins t i j ⊎ Joins t j i) (λ t. either? (joins? i j t) (joins? j i t)) ties
+tied? ties i j = some_tie? (λ t. Joins t i j ⊎ Joins t j i) (λ t. either? (joins? i j t) (joins? j i t)) ties
 
 pub one_given : OneGiven
 one_given m ties i j g h p q =

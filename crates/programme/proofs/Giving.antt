@@ -7,7 +7,7 @@ use Rattle.algebra.specs.Meaning.{Meaning, Lawful, converse_of}
 use Rattle.algebra.specs.Bits.{has_cut, cut_has}
 use Rattle.network.specs.Ties.{In, Tie, Among, Joins, Tied, Allowed, Given}
 use Rattle.network.specs.Closing.{adding}
-use Rattle.network.proofs.Sets.{none, converse_to, converse_from}
+use Rattle.network.proofs.Sets.{converse_to, converse_from}
 use Rattle.network.proofs.Links.{tied?, both?}
 use Rattle.programme.specs.Networks.{cell, tie_of}
 use Rattle.programme.specs.Written.{ground, GivenCuts}

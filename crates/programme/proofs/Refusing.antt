@@ -56,7 +56,7 @@ no_name_fault L name P a b c d Clash = λ _ x. x
 -- ---- ties: the same
 
 module _ (m : Meaning) (L : Ledger) (i j mask : ℕ) where
-  no_tie_fault : (P : Refusal → Type 0) →
+  pub no_tie_fault : (P : Refusal → Type 0) →
       (P Absent → ¬ TieFault m L i j mask Absent) → (P Same → ¬ TieFault m L i j mask Same) →
       (P Empty → ¬ TieFault m L i j mask Empty) → (P Outside → ¬ TieFault m L i j mask Outside) →
       (P Everything → ¬ TieFault m L i j mask Everything) → (P Clash → ¬ TieFault m L i j mask Clash) →

@@ -4,10 +4,12 @@ use Rattle.std.proofs.lemmas.Bool.{cases_order}
 use Rattle.algebra.specs.Meaning.{Meaning}
 use Rattle.algebra.specs.declared.interface.Stamp.{Stamp}
 use Rattle.programme.specs.Ledgers.{Ledger, Ask, Answered}
+use Rattle.programme.specs.Grown.{Orderly}
 use Rattle.programme.specs.declared.refusals.Refusal.{Refusal}
 use Rattle.programme.proofs.Determined.{one_answer}
+use Rattle.programme.proofs.Growing.{after_orderly}
 use Rattle.qcue.specs.Records.{kind_of, payload_of}
-use Rattle.qcue.specs.Loaded.{rank, Broken, ask_in, Saying, Served, Loads, done, broken, denied, onward, OneLoad}
+use Rattle.qcue.specs.Loaded.{rank, Broken, ask_in, Saying, Served, Loads, done, broken, denied, onward, Says, OneLoad}
 use Rattle.qcue.specs.declared.loading.Expected.{Expected}
 use Rattle.qcue.specs.declared.refusals.FileRefusal.{FileRefusal}
 use Rattle.qcue.specs.declared.refusals.FileRefusal.TheVariants.{TooShort, Occupied, Trailing, Unfinished, Cut}
@@ -36,6 +38,20 @@ weaken {L = L} {bytes = bytes} less (denied {refusal = refusal} k s) =
     denied k (weaken_served less L (asked bytes) (Err refusal) s)
 weaken {L = L} {bytes = bytes} less (onward {K = M} k s h) =
     onward k (weaken_served less L (asked bytes) (Ok M) s) (weaken less h)
+
+-- ---- a load leaves an orderly ledger
+
+served_orderly : (m : Meaning) (L K : Ledger) (asked : Option Ask) → Orderly m L → Served (Says m) L asked (Ok K) → Orderly m K
+served_orderly m L K None o e = rw e o
+served_orderly m L K (Some ask) o (n, says, e) = rw e (after_orderly m L ask (Ok n) o says.0)
+
+pub load_orderly : {m : Meaning} {x : Expected} {L K : Ledger} {offset : ℕ} {bytes : List ℕ} {r : Result ℕ Fault} →
+    Loads (Says m) m x L offset bytes r K → Orderly m L → Orderly m K
+load_orderly (done e z) o = o
+load_orderly (broken f b) o = o
+load_orderly (denied k s) o = o
+load_orderly {m = m} {L = L} {bytes = bytes} (onward {K = M} k s h) o =
+    load_orderly h (served_orderly m L M (asked bytes) o s)
 
 -- ---- each rule has its own rank
 

@@ -5,6 +5,7 @@ use Rattle.std.proofs.lemmas.List.{nil_from_length}
 use Rattle.algebra.specs.Meaning.{Meaning, Lawful}
 use Rattle.network.specs.Ties.{Tie}
 use Rattle.programme.specs.Ledgers.{Ledger, blank}
+use Rattle.programme.specs.Grown.{Orderly}
 use Rattle.programme.specs.Shown.{Shows}
 use Rattle.programme.specs.declared.sheets.Sheet.{Sheet}
 use Rattle.qcue.specs.Loaded.{Loads, broken, Says}
@@ -102,9 +103,9 @@ module _ (m : Meaning) (s : Sheet) where
   one_file L these those (a, p, e) (b, q, f) = rw (e, f, one_list m L a b p q) refl
 
   module _ (law : Lawful m) (house : m.stamp.house < 2 ^ 32) where
-    back : (L : Ledger) (bytes : List ℕ) → Shows m s L → FileOf m L bytes → LoadsBack m L bytes
-    back L bytes w (rows, pairs, e) =
-        let (K, loadable, same) = loads_back m s L rows law house w pairs in
+    back : (L : Ledger) (bytes : List ℕ) → Shows m s L → FileOf m L bytes → Orderly m L → LoadsBack m L bytes
+    back L bytes w (rows, pairs, e) o =
+        let (K, loadable, same) = loads_back m s L rows law house w o pairs in
         (K, rw e ((loads_exactly m (file_bytes m.stamp L.names rows) K).1 loadable), same)
 
     pub written : (old new none left : List ℕ) (n k : ℕ) → PutFile m s none left n → n ≤ length old → PutFile m s old new k →

@@ -169,16 +169,16 @@ module _ (m : Meaning) (s : Sheet) where
     pub file_laid : (stamp : Stamp) (ties : ℕ) (head end old b c d new : List ℕ) (e f g z : ℕ) → stamp ≡ m.stamp →
         head ≡ head_bytes stamp → end ≡ end_bytes n ties → ties ≡ (g - f) / 10 → Put head old 0 b e → PutEntries m s b e c f →
         PutTies m s c f d g → Put end d g new z → PutFile m s old new z
-    file_laid stamp ties head end old b c d new e f g z is-stamp is_head is_end is-ties p q r t = record {
+    file_laid stamp ties head end old b c d new e f g z is_stamp is_head is_end is_ties p q r t = record {
       bytes = head ++ (q.part ++ (flat_map tie_bytes r.rows ++ end));
       put =
           put_more _ _ _ _ _ _ _ _ p (put_more _ _ _ _ _ _ _ _ q.put (put_more _ _ _ _ _ _ _ _ r.put t));
       file = λ L w. (
         r.rows,
         r.pairs L w,
-        rw (is_head, is-stamp, q.named L w, is_end, counted L w, few) refl,
+        rw (is_head, is_stamp, q.named L w, is_end, counted L w, few) refl,
       );
     }
       where
         few : ties ≡ length r.rows
-        few = omega (arith, is-ties, r.put.ends, ten_each r.rows)
+        few = omega (arith, is_ties, r.put.ends, ten_each r.rows)

@@ -16,7 +16,7 @@ use Rattle.network.proofs.Nets.{clash_shows}
 use Rattle.network.proofs.Following.{weaker}
 use Rattle.programme.specs.Networks.{net_of}
 use Rattle.programme.specs.Ledgers.{Ledger, enter, TieFault, Answered}
-use Rattle.programme.specs.Grown.{InTurn, ended, next}
+use Rattle.programme.specs.Grown.{InTurn, ended, next, Orderly}
 use Rattle.programme.specs.Shown.{Shows}
 use Rattle.programme.specs.declared.refusals.Refusal.{Refusal}
 use Rattle.programme.specs.declared.refusals.Refusal.TheVariants.{Misnamed}
@@ -41,7 +41,7 @@ names_short m L K (x ∷ names) (next a p) name (Memᴰ.tail h) = names_short m 
 
 -- ---- rows in turn
 
-module _ (m : Meaning) (l : Lawful m) (s : Sheet) (L : Ledger) (w : Shows m s L) where
+module _ (m : Meaning) (l : Lawful m) (s : Sheet) (L : Ledger) (w : Shows m s L) (o : Orderly m L) where
   module _ (t : Tie) (p : TiedPair m L t) where
     allowed : (r : ℕ) → In r t.mask → Allowed m L.ties t.first t.second r
     allowed r = (p.given.some p.tied r).0
@@ -53,7 +53,7 @@ module _ (m : Meaning) (l : Lawful m) (s : Sheet) (L : Ledger) (w : Shows m s L)
     mask_part : t.mask ≢ m.universe
     mask_part e =
         let (u, a, j) = p.tied in
-        let told = w.orderly.telling u a in
+        let told = o.telling u a in
         told.part (equal u.mask m.universe told.within (λ r h. elim j [
           | inl k ↦ (allowed r (rw e h)).forth u a k
           | inr k ↦ rw (l.converse_twice r h) at ((allowed (m.converse r) (rw e (l.converse_in r h))).back u a k)
@@ -102,18 +102,18 @@ module _ (m : Meaning) (l : Lawful m) (s : Sheet) (L : Ledger) (w : Shows m s L)
         next (row_taken past t (λ u a. each u (rw f at (Memᴰ.append_left rest a)))) (rows_taken (adding past t) rest f)
 
 pub loads_back : (m : Meaning) (s : Sheet) (L : Ledger) (rows : List Tie) →
-    Lawful m → m.stamp.house < 2 ^ 32 → Shows m s L → TiedPairs m L rows →
+    Lawful m → m.stamp.house < 2 ^ 32 → Shows m s L → Orderly m L → TiedPairs m L rows →
     (K : Ledger) × Loadable m (file_bytes m.stamp L.names rows) K × SameLedger m L K
-loads_back m s L rows l house w p =
+loads_back m s L rows l house w o p =
     let few = pairs_few m L rows _ w.proper (omega (arith, w.counted, w.room)) p in (
       record { names = L.names; ties = rows },
       record {
         names = L.names;
         ties = rows;
         holds =
-            file_holds m.stamp L.names rows house (omega arith) (names_short m _ _ L.names w.orderly.entered)
-            (λ t a. mask_low m l s L w t (p.each t a));
-        taken = both_in_turn w.orderly.entered (rows_taken m l s L w rows p.each [] rows refl);
+            file_holds m.stamp L.names rows house (omega arith) (names_short m _ _ L.names o.entered)
+            (λ t a. mask_low m l s L w o t (p.each t a));
+        taken = both_in_turn o.entered (rows_taken m l s L w o rows p.each [] rows refl);
       },
       easier_same m L.names L.ties rows (ties_easier m l L rows _ w.proper p) (rows_easier m l L rows p.each),
     )

@@ -5,6 +5,7 @@ use Rattle.std.specs.List.{flat_map}
 use Rattle.algebra.specs.Meaning.{Meaning}
 use Rattle.network.specs.Ties.{Tie, Tied}
 use Rattle.programme.specs.Ledgers.{Ledger}
+use Rattle.programme.specs.Grown.{Orderly}
 use Rattle.programme.specs.Pairs.{RowsTo}
 use Rattle.programme.specs.Shown.{Shows}
 use Rattle.programme.specs.declared.sheets.Sheet.{Sheet}
@@ -63,11 +64,11 @@ pub record PutFile (m : Meaning) (s : Sheet) (old new : List ℕ) (end : ℕ) : 
   pub file : (L : Ledger) → Shows m s L → FileOf m L bytes
 
 -- What write answers for every ledger that the sheet shows: the length of its file, which stands at the front of the buffer and
--- would load back, and the other bytes are as they were; or that the buffer is shorter, and then every byte is as it was.
+-- would load back if calls led to the ledger, and the other bytes are as they were; or that the buffer is shorter, and then every byte is as it was.
 abbrev pub WrittenAs : Meaning → Sheet → List ℕ → List ℕ → Result ℕ FileRefusal → Type 0
 WrittenAs m s old new (Ok n) =
     (L : Ledger) → Shows m s L →
-    (bytes : List ℕ) × FileOf m L bytes × (n ≡ length bytes) × (new ≡ bytes ++ drop n old) × LoadsBack m L bytes
+    (bytes : List ℕ) × FileOf m L bytes × (n ≡ length bytes) × (new ≡ bytes ++ drop n old) × (Orderly m L → LoadsBack m L bytes)
 WrittenAs m s old new (Err refusal) =
     (refusal ≡ TooShort) × (new ≡ old) ×
     ((L : Ledger) → Shows m s L → (bytes : List ℕ) × FileOf m L bytes × (length old < length bytes))

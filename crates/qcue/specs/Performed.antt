@@ -4,6 +4,7 @@ use Rattle.algebra.specs.Meaning.{Meaning}
 use Rattle.network.specs.Links.{Linked}
 use Rattle.programme.specs.Networks.{cell}
 use Rattle.programme.specs.Ledgers.{Ledger, blank, Ask, after, WhenRefused, WhenTried}
+use Rattle.programme.specs.Grown.{Orderly}
 use Rattle.programme.specs.Shown.{Shows}
 use Rattle.programme.specs.Questions.{SettledSet}
 use Rattle.programme.specs.Performed.{ask_of}
@@ -62,9 +63,11 @@ pub record TurnKeeps (m : Meaning) (s : Sheet) (turn : Turn) (r : Answer) (t : S
   pub refused : WhenDenied r (t ≡ s)
   pub tried : WhenAttempted turn (t ≡ s)
 
--- A stage of a line: the sheet shows the ledger, and has on each link what the ties taken so far settle.
+-- A stage of a line: the sheet shows the ledger, which calls could lead to, and has on each link what the ties taken so far
+-- settle.
 pub record Stage (m : Meaning) (s : Sheet) (L : Ledger) : Type 0 where
   pub shown : Shows m s L
+  pub orderly : Orderly m L
   pub settled : (i j : ℕ) → Linked L.ties i j → SettledSet m L i j (cell s.network.sets i j)
 
 -- The turns on the sheet s, which shows the ledger L, are answered one by one, and lead to the sheet u and the ledger J. There

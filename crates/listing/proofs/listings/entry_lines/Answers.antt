@@ -3,7 +3,7 @@ use Rattle.listing.proofs.Adding.{entries_more, entries_all}
 use Rattle.listing.proofs.listings.entry_lines.Goals as goal
 
 pub loop-number-init : goal.loop-number-init
-loop-number-init g c L w = c.new-text.ensures.bytes
+loop-number-init g c L w o = c.new-text.ensures.bytes
 
 pub loop-number-preserved : goal.loop-number-preserved
 loop-number-preserved g c =

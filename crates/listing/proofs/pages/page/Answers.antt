@@ -14,10 +14,10 @@ returns-in-Err-load c =
     file_refused _ _ _ (ap (λ a. housed (meaning_of a.below) a.mask) opened.lent) c.if-bytes-gt-LONGEST_LISTED.false
     c.in-Ok.ensures _ _ opened.shown _ c.in-Err-load.ensures.kept
 
-pub returns-in_ok-listing : goal.returns-in_ok-listing
-returns-in_ok-listing c =
+pub returns-in_ok-listing-in-Ok-load : goal.returns-in_ok-listing-in-Ok-load
+returns-in_ok-listing-in-Ok-load c =
     let opened = c.open-programme.ensures in
     let told = c.in-Ok-load.ensures in
     file_listed _ _ _ (ap (λ a. housed (meaning_of a.below) a.mask) opened.lent) c.if-bytes-gt-LONGEST_LISTED.false
     c.in-Ok.ensures _ _ opened.shown _ _ _ (ap (λ a. housed (meaning_of a.below) a.mask) told.lent) told.kept
-    c.in_ok-listing.ensures
+    c.in_ok-listing-in-Ok-load.ensures

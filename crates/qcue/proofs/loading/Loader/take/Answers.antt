@@ -15,11 +15,11 @@ returns-in_err-asked g c =
           refused _ _ _ _ _ _ c.stamp.ensures c.entries.ensures.counted L w a _ c.in_err-asked.ensures;
     })
 
-pub returns-in_err-perform : goal.returns-in_err-perform
-returns-in_err-perform g c =
-    let p = err_from_is_err_and c.from_residual-in_err-perform.result c.from_residual-in_err-perform.ensures.1 in
+pub returns-in_err-perform-in-Some : goal.returns-in_err-perform-in-Some
+returns-in_err-perform-in-Some g c =
+    let p = err_from_is_err_and c.from_residual-in_err-perform-in-Some.result c.from_residual-in_err-perform-in-Some.ensures.1 in
     let step = c.in_ok-asked.ensures in
-    let told = c.in_err-perform.ensures in
+    let told = c.in_err-perform-in-Some.ensures in
     rw (p.1, p.2) (record {
       lent = told.lent;
       long = tt;
@@ -30,10 +30,10 @@ returns-in_err-perform g c =
       );
     })
 
-pub returns-in_ok-perform : goal.returns-in_ok-perform
-returns-in_ok-perform g c =
+pub returns-in_ok-perform-in-Some : goal.returns-in_ok-perform-in-Some
+returns-in_ok-perform-in-Some g c =
     let step = c.in_ok-asked.ensures in
-    let told = c.in_ok-perform.ensures in
+    let told = c.in_ok-perform-in-Some.ensures in
     record {
       lent = told.lent;
       long = (step.whole, step.long);
