@@ -1,5 +1,5 @@
 -- What the bytes of a file give: the listing of its sheet, or why there is none.
-use Rattle.std.specs.Prelude.{◌≡◌, ℕ, ◌<◌, ◌≤◌, ◌⊎◌, List, ◌++◌, length, Some, Ok, Err, codes}
+use Rattle.std.specs.Prelude.{◌≡◌, ℕ, ◌<◌, ◌≤◌, ◌⊎◌, List, length, Some, Ok, Err, codes}
 use Rattle.algebra.specs.House.{housed}
 use Rattle.algebra.specs.Meaning.{Meaning}
 use Rattle.algebra.specs.Standard.{meaning_of, standard_of}
