@@ -1,5 +1,5 @@
 -- What the inner functions write to a sheet.
-use Rattle.std.specs.Prelude.{◌≡◌, ℕ, ◌+◌, cond, ◌≢◌, get_or, Result, ◌==◌, bit_and, slice_index_or}
+use Rattle.std.specs.Prelude.{◌≡◌, ℕ, ◌+◌, cond, ◌≢◌, Result, ◌==◌, bit_and, slice_index_or}
 use Rattle.algebra.specs.Meaning.{Meaning, converse_of}
 use Rattle.programme.specs.Networks.{cell}
 use Rattle.programme.specs.Spelled.{nobody}
@@ -13,7 +13,7 @@ use Rattle.programme.specs.declared.sheets.Sheet.{Sheet}
 -- t is s with one entry more
 pub record Entered (s : Sheet) (name : Name) (t : Sheet) : Type 0 where
   pub count : t.count ≡ s.count + 1
-  pub there : get_or t.names s.count nobody ≡ name
+  pub there : slice_index_or t.names s.count nobody ≡ name
   pub others : (k : ℕ) → k ≢ s.count → slice_index_or t.names k nobody ≡ slice_index_or s.names k nobody
   pub given : t.given ≡ s.given
   pub network : t.network ≡ s.network

@@ -1,10 +1,8 @@
 // Names of entries: what may be a name, and how a sheet holds it.
-ghost use Rattle.std.specs.Prelude.{◌≡◌, ℕ, ◌<◌, ◌≤◌, true, false, length, take, Decides, slice_index, ◌==◌};
-ghost use Rattle.programme.specs.Spelled.{name_of};
+ghost use Rattle.std.specs.Prelude.{◌≡◌, ℕ, ◌<◌, ◌≤◌, true, false, length, take, Decides, slice_index};
+ghost use Rattle.programme.specs.Spelled.{name_of, equal_names};
 ghost use Rattle.programme.specs.Ledgers.{Unseen};
 ghost use Rattle.std.specs.Cmp.Rules.{comparing};
-ghost use Rattle.std.specs.Ordering.{on, eq_of_both};
-ghost use Rattle.std.specs.Cmp.Lexicographic.{pointwise};
 ghost use Rattle.std.proofs.Common.{rules};
 
 /// A name has at most this many bytes.
@@ -25,12 +23,12 @@ pub(crate) struct Name {
 
 /// Names are equal if their bytes and lengths are. This is written out, to promise more than a derived equality: that it decides.
 impl PartialEq for Name {
-    ghost eq = { eq_of_both (on (λ n. n.bytes) (pointwise ◌==◌)) (on (λ n. n.len) ◌==◌) };
+    ghost eq = { equal_names };
 
     ghost laws = { Prim.search (comparing, rules) };
 
     fn eq(&self, other: &Name) -> bool
-        ensures value { result ≡ eq_of_both (on (λ (n : Name). n.bytes) (pointwise ◌==◌)) (on (λ (n : Name). n.len) ◌==◌) self.now other.now }
+        ensures value { result ≡ equal_names self.now other.now }
         ensures decides { Decides result (self.now ≡ other.now) }
     {
         self.bytes == other.bytes && self.len == other.len
