@@ -1,18 +1,17 @@
 -- Ledgers that grow: each entry and tie that is taken leaves an orderly ledger.
-use Rattle.std.proofs.Common.{ℕ, zero, suc, ◌<◌, List, [], ◌∷◌, ◌++◌, map, length, get_or, Ok, Err, Result, inl, inr, arith, lit<}
+use Rattle.std.proofs.Common.{ℕ, zero, suc, ◌<◌, List, [], ◌∷◌, ◌++◌, map, length, get_or, Ok, Err, inl, inr, arith, lit<}
 use mathlib.Core.List.Memᴰ
 use Rattle.std.proofs.lemmas.List.{map_push}
 use Rattle.std.proofs.lemmas.Bool.{cases_Bool}
 use Rattle.algebra.specs.Masks.{has}
 use Rattle.algebra.specs.Meaning.{Meaning}
 use Rattle.programme.specs.Networks.{tie_of}
-use Rattle.programme.specs.Ledgers.{Ledger, blank, Ask, enter, tie, attempt, Below, Answered, taken, after}
-use Rattle.programme.specs.Grown.{InTurn, ended, next, Telling, Orderly}
-use Rattle.programme.specs.declared.refusals.Refusal.{Refusal}
+use Rattle.programme.specs.Ledgers.{Ledger, Ask, enter, tie, attempt, Below, Answered, taken}
+use Rattle.programme.specs.Grown.{InTurn, ended, next, Telling, Orderly, BlankOrderly, StaysOrderly}
 use Rattle.programme.specs.declared.refusals.Refusal.TheVariants.{Outside, Everything}
 use Rattle.programme.proofs.Giving.{each_tie}
 
-pub blank_orderly : (m : Meaning) → Orderly m blank
+pub blank_orderly : BlankOrderly
 blank_orderly m = record { entered = ended; telling = λ t a. absurd (Memᴰ.not-nil a) }
 
 -- what is asked in turn, and then more
@@ -46,8 +45,7 @@ tie_orderly m L i j mask o below = record {
 }
 
 -- every answer leaves an orderly ledger
-pub after_orderly : (m : Meaning) (L : Ledger) (ask : Ask) (r : Result ℕ Refusal) → Orderly m L → Answered m L ask r →
-    Orderly m (after L ask r)
+pub after_orderly : StaysOrderly
 after_orderly m L (enter name) (Ok n) o a = entry_orderly m L name n o a
 after_orderly m L (tie i j mask) (Ok n) o a = tie_orderly m L i j mask o (λ refusal h. a.1 refusal)
 after_orderly m L (attempt i j mask) (Ok n) o a = o

@@ -1,8 +1,9 @@
 -- How ledgers grow: calls that are taken in turn, and what holds of every ledger that grew from the blank one.
-use Rattle.std.specs.Prelude.{ℕ, ◌≢◌, List, [], ◌∷◌, map, Ok}
+use Rattle.std.specs.Prelude.{ℕ, ◌≢◌, List, [], ◌∷◌, map, Ok, Result}
 use Rattle.algebra.specs.Meaning.{Meaning, Reading}
 use Rattle.network.specs.Ties.{In, Tie, Among}
-use Rattle.programme.specs.Ledgers.{Ledger, blank, Ask, enter, Answered, taken}
+use Rattle.programme.specs.Ledgers.{Ledger, blank, Ask, enter, Answered, taken, after}
+use Rattle.programme.specs.declared.refusals.Refusal.{Refusal}
 
 -- what is asked in turn is taken, nothing is refused, and it leads from one ledger to another
 pub data InTurn (m : Meaning) : Ledger → List Ask → Ledger → Type 0 where
@@ -23,3 +24,11 @@ pub record Telling (m : Meaning) (mask : ℕ) : Type 0 where
 pub record Orderly (m : Meaning) (L : Ledger) : Type 0 where
   pub entered : InTurn m blank (map enter L.names) (naming L.names)
   pub telling : (t : Tie) → Among t L.ties → Telling m t.mask
+
+-- calls lead to orderly ledgers alone: the blank one is orderly, and every answer leaves an orderly ledger
+abbrev pub BlankOrderly : Type 0
+BlankOrderly = (m : Meaning) → Orderly m blank
+
+abbrev pub StaysOrderly : Type 0
+StaysOrderly =
+    (m : Meaning) (L : Ledger) (ask : Ask) (r : Result ℕ Refusal) → Orderly m L → Answered m L ask r → Orderly m (after L ask r)
