@@ -1,12 +1,12 @@
 -- What an algebra describes by things it describes by the groups of their numbers, where each group is that of one thing.
-use Rattle.std.proofs.Common.{◌≡◌, ℕ, [], ◌∷◌, length, get_or, ℤ, pos, ◌<ℤ◌, Some, sym, refl, ◌∙◌, inl, inr, arith}
+use Rattle.std.proofs.Common.{◌≡◌, ℕ, [], ◌∷◌, length, get_or, ℤ, pos, ◌<ℤ◌, Some, sym, refl, ◌∙◌, arith}
 use Rattle.algebra.specs.Meaning.{Meaning}
 use Rattle.algebra.specs.Things.{Relation, Describes}
 use Rattle.algebra.specs.Instants.{instants, InstantsStand}
 use Rattle.algebra.specs.Spans.{spans, Span, SpansStand}
 use Rattle.algebra.specs.Timed.{Group, IsThing, GroupsStand, Measured, Reads}
 use Rattle.algebra.specs.Timed.{instant_numbers, InstantGroup, InstantGroupsStand, span_numbers, SpanGroup, SpanGroupsStand}
-use Rattle.algebra.specs.InstantLaws.{trichotomy, instants_describe}
+use Rattle.algebra.specs.InstantLaws.{instants_describe}
 use Rattle.algebra.specs.SpanLaws.{spans_describe}
 
 module _ (m : Meaning) (Thing : Type 0) (Stand : ℕ → Relation Thing) (d : Describes m Thing Stand) (numbers : Thing → Group)
@@ -83,12 +83,3 @@ pub span_reads : (g h : Group) (a : ℕ) → SpanGroup g → SpanGroup h →
 span_reads g h a (x, e) (y, f) s =
     reads spans 2 SpanGroup SpanGroupsStand spans_measured g h a (x, e) (y, f)
     (x, y, e, f, s x y (rw e) (rw e) (rw f) (rw f))
-
--- one of three readings, as one number is smaller than another, equal or greater
-pub by_order : (P : ℕ → Type 0) (p q : ℤ) (r a b c : ℕ) → (p <ℤ q → r ≡ a) → (p ≡ q → r ≡ b) → (q <ℤ p → r ≡ c) →
-    (p <ℤ q → P a) → (p ≡ q → P b) → (q <ℤ p → P c) → P r
-by_order P p q r a b c is_a is_b is_c f g h =
-    elim (trichotomy p q) [
-      | inl e ↦ rw (is_b e) (g e)
-      | inr o ↦ elim o [ inl l ↦ rw (is_a l) (f l) | inr m ↦ rw (is_c m) (h m) ]
-    ]

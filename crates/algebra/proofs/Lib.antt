@@ -1,3 +1,4 @@
 pub mod Lowest
 pub mod GroupLaws
 pub mod Spelling
+pub mod Rows

@@ -1,11 +1,13 @@
 pub mod Masks
 pub mod Meaning
+pub mod Members
 pub mod Things
 pub mod Tables
 pub mod Instants
 pub mod Spans
 pub mod Timed
 pub mod Regions
+pub mod Readings
 pub mod House
 pub mod Standard
 pub mod Statements

@@ -2,7 +2,7 @@
 ghost use Rattle.algebra.specs.House.{housed};
 ghost use Rattle.algebra.specs.HouseLaws.{house_laws};
 
-use crate::interface::{Algebra, ReadingSet, Stamp};
+use crate::interface::{Algebra, IDENTITY, ReadingSet, Stamp};
 
 /// The algebra `below`, cut to reading 0 and the readings that `mask` has together with their converses.
 #[derive(Clone, Copy)]
@@ -10,8 +10,6 @@ pub struct House<B> {
     pub below: B,
     pub mask: ReadingSet,
 }
-
-const IDENTITY: ReadingSet = 0x1;
 
 impl<B: Algebra> Algebra for House<B> {
     ghost meaning = { λ h. housed (B.Algebra.meaning h.below) h.mask };

@@ -1,58 +1,50 @@
 // Instants: the point algebra.
+ghost use Rattle.std.specs.Prelude.{◌≡◌};
 ghost use Rattle.algebra.specs.Instants.{instants, InstantsStand};
 ghost use Rattle.algebra.specs.Timed.{InstantGroup, InstantGroupsStand};
 ghost use Rattle.algebra.specs.InstantLaws.{instant_laws};
+ghost use Rattle.algebra.specs.Readings.{instant_number};
 
-use crate::interface::{Algebra, NO_HOUSE_RULE, ReadingSet, Stamp};
-use crate::table::{compose_by, converse_by, refine_by};
+use crate::standards::Standard;
+use crate::table::Tables;
+use crate::tabled::Tabled;
 use crate::times::Timed;
+use std::cmp::Ordering;
 
 /// Whole numbers on a line: 0 is `=`, 1 is `<`, 2 is `>`.
 #[derive(Clone, Copy)]
 pub struct Instants;
 
-const CODE: u8 = 1;
+/// The readings, by number.
+#[derive(Clone, Copy)]
+enum Reading {
+    Equal,
+    Earlier,
+    Later,
+}
 
-const UNIVERSE: ReadingSet = 0x7;
-
-const CONVERSES: [u32; 3] = [0, 2, 1];
-
-const COMPOSITIONS: [[ReadingSet; 3]; 3] = [[0x1, 0x2, 0x4], [0x2, 0x2, 0x7], [0x4, 0x7, 0x4]];
-
-const EQUAL: u32 = 0;
-
-const EARLIER: u32 = 1;
-
-const LATER: u32 = 2;
+impl Reading {
+    fn number(self) -> u32
+        ensures { result ≡ instant_number self }
+    {
+        self as u32
+    }
+}
 
 /// An instant is one number.
 const NUMBERS: usize = 1;
 
-impl Algebra for Instants {
-    ghost meaning = { λ _. instants };
+impl Tabled for Instants {
+    ghost described = { λ _. instants };
 
-    ghost lawful = { λ x. instant_laws };
+    ghost lawful = { λ _. instant_laws };
 
-    fn universe(&self) -> ReadingSet {
-        UNIVERSE
-    }
-
-    fn converse(&self, set: ReadingSet) -> ReadingSet {
-        converse_by(&CONVERSES, UNIVERSE, set)
-    }
-
-    fn compose(&self, first: ReadingSet, second: ReadingSet) -> ReadingSet {
-        compose_by(&COMPOSITIONS, UNIVERSE, first, second)
-    }
-
-    fn refine(&self, target: ReadingSet, first: ReadingSet, second: ReadingSet) -> ReadingSet {
-        refine_by(&COMPOSITIONS, UNIVERSE, target, first, second)
-    }
-
-    fn stamp(&self) -> Stamp {
-        Stamp {
-            code: CODE,
-            house: NO_HOUSE_RULE,
+    fn tables(&self) -> Tables {
+        Tables {
+            code: Standard::Instants as u8,
+            universe: 0x7,
+            converses: &[0, 2, 1],
+            compositions: &[&[0x1, 0x2, 0x4], &[0x2, 0x2, 0x7], &[0x4, 0x7, 0x4]],
         }
     }
 }
@@ -76,19 +68,17 @@ impl Timed for Instants {
         if !self.is_thing(first) || !self.is_thing(second) {
             return None;
         }
-        Some(between(first[0], second[0]))
+        Some(between(first[0], second[0]).number())
     }
 }
 
 /// The reading from the first number to the second.
-fn between(first: i32, second: i32) -> u32
-    ensures { InstantsStand result first second }
+fn between(first: i32, second: i32) -> Reading
+    ensures { InstantsStand (instant_number result) first second }
 {
-    if first < second {
-        EARLIER
-    } else if first == second {
-        EQUAL
-    } else {
-        LATER
+    match first.cmp(&second) {
+        Ordering::Equal => Reading::Equal,
+        Ordering::Less => Reading::Earlier,
+        Ordering::Greater => Reading::Later,
     }
 }

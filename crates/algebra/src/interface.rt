@@ -8,6 +8,9 @@ pub type ReadingSet = u32;
 /// The house mask of an algebra that no house rule cuts.
 pub const NO_HOUSE_RULE: ReadingSet = 0xFFFF_FFFF;
 
+/// Reading 0 alone: what stands from a thing to itself.
+pub const IDENTITY: ReadingSet = 0x1;
+
 /// How a file names an algebra.
 #[derive(Clone, Copy, PartialEq, Eq, Debug)]
 pub struct Stamp {

@@ -1,9 +1,10 @@
 // Readings as letters, for what people read and write.
-ghost use Rattle.std.specs.Prelude.{◌≡◌, ◌<◌, IfOk, string_bytes};
-ghost use Rattle.algebra.specs.Masks.{has};
+ghost use Rattle.std.specs.Prelude.{◌≡◌, IfOk, string_bytes};
 ghost use Rattle.algebra.specs.Letters.{letters_of, Ascii, spelling, ReadsLetter, ReadsText};
 
 use crate::interface::ReadingSet;
+use crate::members::Members;
+use crate::standards::Standard;
 use std::alloc::{AllocError, Global};
 
 /// The letters of the algebra whose stamp has this code, from reading 0 up; none for a code that is not standard.
@@ -11,11 +12,11 @@ pub fn letters(code: u8) -> &'static [u8]
     ensures value { result.now ≡ letters_of code }
     ensures ascii { Ascii result.now }
 {
-    match code {
-        1 => b"=<>",
-        2 => b"epPmMoOsSdDfF",
-        3 => b"edcotTnN",
-        _ => b"",
+    match Standard::try_from(code) {
+        Ok(Standard::Instants) => b"=<>",
+        Ok(Standard::Spans) => b"epPmMoOsSdDfF",
+        Ok(Standard::Regions) => b"edcotTnN",
+        Err(_) => b"",
     }
 }
 
@@ -23,13 +24,7 @@ pub fn letters(code: u8) -> &'static [u8]
 pub fn reading_of(code: u8, letter: u8) -> Option<usize>
     ensures { ReadsLetter code letter result }
 {
-    let all = letters(code);
-    for (k, x) in all.iter().enumerate() {
-        if *x == letter {
-            return Some(k);
-        }
-    }
-    None
+    letters(code).iter().position(|x| *x == letter)
 }
 
 /// The set that a text of letters stands for, in any order; `None` where a byte is no letter.
@@ -38,19 +33,9 @@ pub fn set_of(code: u8, text: &[u8]) -> Option<ReadingSet>
 {
     let mut set = 0;
     for x in text {
-        match reading_of(code, *x) {
-            Some(k) => set |= 1 << k,
-            None => return None,
-        }
+        set |= 1 << reading_of(code, *x)?;
     }
     Some(set)
-}
-
-fn holds(set: ReadingSet, k: usize) -> bool
-    requires { k < 32 }
-    ensures { result ≡ has set k }
-{
-    (set >> k) & 1 == 1
 }
 
 /// A set in letters, by rising reading.
@@ -60,7 +45,7 @@ pub fn spelled(heap: Global, code: u8, set: ReadingSet) -> Result<String, AllocE
     let alphabet = letters(code);
     let mut text = String::new(heap);
     for (k, x) in alphabet.iter().enumerate() {
-        if holds(set, k) {
+        if Members::from(set).contains(k) {
             text.push(char::from(*x))?;
         }
     }

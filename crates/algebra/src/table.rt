@@ -1,85 +1,91 @@
-// The code that the algebras share whose converses and compositions stand in tables. It visits the readings of a set from
-// the lowest up, and spends nothing on those that are absent.
-ghost use Rattle.std.specs.Prelude.{◌≡◌, ℕ, ◌^◌, ◌<◌, bit_and, slice_index};
+// Tables of an algebra. Their calls visit the readings of a set from the lowest up, and spend nothing on those that are absent.
+ghost use Rattle.std.specs.Prelude.{◌≡◌, ℕ, ◌^◌, ◌<◌, ◌≤◌, length, map, bit_and, slice_index};
 ghost use Rattle.algebra.specs.Masks.{union};
 ghost use Rattle.algebra.specs.Meaning.{converses, compositions};
-ghost use Rattle.algebra.specs.Tables.{turned, composed};
+ghost use Rattle.algebra.specs.Tables.{turned, composed, rows_of, Square};
 
-use crate::interface::ReadingSet;
+use crate::interface::{NO_HOUSE_RULE, ReadingSet, Stamp};
+use crate::members::Members;
 
-// The union of the masks of `row` at the readings of `set`.
-fn union_at<const N: usize>(row: &[ReadingSet; N], set: ReadingSet) -> ReadingSet
-    requires { set < 2 ^ N }
+/// The code and the readings of an algebra, the converse of each, and the composition of each with each, by rows.
+// Two tables, and not one of pairs: a call reads one of them alone.
+#[derive(Clone, Copy)]
+pub struct Tables {
+    pub(crate) code: u8,
+    pub(crate) universe: ReadingSet,
+    pub(crate) converses: &'static [u32],
+    pub(crate) compositions: &'static [&'static [ReadingSet]],
+    ghost few: { length converses.now ≤ 32 },
+    ghost within: { universe < 2 ^ length converses.now },
+    ghost readings: { (k : ℕ) → k < length converses.now → slice_index converses.now k < 32 },
+    ghost square: { Square (length converses.now) (rows_of compositions.now) },
+}
+
+impl Tables {
+    pub(crate) fn stamp(&self) -> Stamp
+        ensures { result ≡ record { code = self.now.code; house = 0xFFFFFFFF } }
+    {
+        Stamp {
+            code: self.code,
+            house: NO_HOUSE_RULE,
+        }
+    }
+
+    /// The converses of the readings of `set`.
+    pub(crate) fn converse(&self, set: ReadingSet) -> ReadingSet
+        ensures { result ≡ converses self.now.universe (turned self.now.converses.now) set }
+    {
+        let mut sum = 0;
+        for k in Members::from(set & self.universe) {
+            sum |= 1 << self.converses[k];
+        }
+        sum
+    }
+
+    /// The compositions of the readings of `first` with those of `second`.
+    pub(crate) fn compose(&self, first: ReadingSet, second: ReadingSet) -> ReadingSet
+        ensures { result ≡ compositions self.now.universe
+            (composed (rows_of self.now.compositions.now)) first second }
+    {
+        let columns = second & self.universe;
+        let mut sum = 0;
+        for k in Members::from(first & self.universe) {
+            sum |= union_at(self.compositions[k], columns);
+        }
+        sum
+    }
+
+    /// What of `target` lies in that composition. It leaves off as soon as all of it does, mostly after one row.
+    pub(crate) fn refine(
+        &self,
+        target: ReadingSet,
+        first: ReadingSet,
+        second: ReadingSet,
+    ) -> ReadingSet
+        ensures { result ≡ bit_and target
+            (compositions self.now.universe (composed (rows_of self.now.compositions.now)) first second) }
+    {
+        let columns = second & self.universe;
+        let mut sum = 0;
+        for k in Members::from(first & self.universe) {
+            sum |= union_at(self.compositions[k], columns);
+            if target & sum == target {
+                return target;
+            }
+        }
+        target & sum
+    }
+}
+
+/// The union of the sets of `row` at the readings of `set`.
+fn union_at(row: &[ReadingSet], set: ReadingSet) -> ReadingSet
+    requires few { length row.now ≤ 32 }
+    requires within { set < 2 ^ length row.now }
     ensures { result ≡ union set (turned row.now) 32 }
 {
     let mut sum = 0;
-    let mut rest = set;
-    while rest != 0 {
-        sum |= row[rest.trailing_zeros() as usize];
-        rest &= rest - 1;
+    for k in Members::from(set) {
+        sum |= row[k];
     }
     sum
-}
-
-// The converses of the readings of `set`, as `readings` lists them.
-pub(crate) fn converse_by<const N: usize>(
-    readings: &[u32; N],
-    universe: ReadingSet,
-    set: ReadingSet,
-) -> ReadingSet
-    requires within { universe < 2 ^ N }
-    requires readings { (k : ℕ) → k < N → slice_index readings.now k < 32 }
-    ensures { result ≡ converses universe (turned readings.now) set }
-{
-    let mut sum = 0;
-    let mut rest = set & universe;
-    while rest != 0 {
-        sum |= 1 << readings[rest.trailing_zeros() as usize];
-        rest &= rest - 1;
-    }
-    sum
-}
-
-// The compositions of the readings of `first` with those of `second`, as `rows` lists them.
-pub(crate) fn compose_by<const N: usize>(
-    rows: &[[ReadingSet; N]; N],
-    universe: ReadingSet,
-    first: ReadingSet,
-    second: ReadingSet,
-) -> ReadingSet
-    requires { universe < 2 ^ N }
-    ensures { result ≡ compositions universe (composed rows.now) first second }
-{
-    let columns = second & universe;
-    let mut sum = 0;
-    let mut rest = first & universe;
-    while rest != 0 {
-        sum |= union_at(&rows[rest.trailing_zeros() as usize], columns);
-        rest &= rest - 1;
-    }
-    sum
-}
-
-// What of `target` lies in that composition. It leaves off as soon as all of it does, mostly after one row.
-pub(crate) fn refine_by<const N: usize>(
-    rows: &[[ReadingSet; N]; N],
-    universe: ReadingSet,
-    target: ReadingSet,
-    first: ReadingSet,
-    second: ReadingSet,
-) -> ReadingSet
-    requires { universe < 2 ^ N }
-    ensures { result ≡ bit_and target (compositions universe (composed rows.now) first second) }
-{
-    let columns = second & universe;
-    let mut sum = 0;
-    let mut rest = first & universe;
-    while rest != 0 {
-        sum |= union_at(&rows[rest.trailing_zeros() as usize], columns);
-        if target & sum == target {
-            return target;
-        }
-        rest &= rest - 1;
-    }
-    target & sum
 }

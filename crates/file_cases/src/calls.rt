@@ -41,7 +41,9 @@ fn full_sheets(rt: &HostRuntime) -> io::Result<()> {
 fn print_full_sheet(rt: &HostRuntime, words: &str, record: &[u8]) -> io::Result<()> {
     let mut file = HEAD.to_vec(rt.alloc())?;
     for k in 0..FULL_SHEET {
-        file.extend_from_slice(&[7, 0, 2, 0, b'E', b'0' + k / 10 % 10, b'0' + k % 10])?;
+        let name = format!(in rt.alloc(); "E{k:02}")?;
+        file.extend_from_slice(b"\x07\x00\x02\x00")?;
+        file.extend_from_slice(name.as_bytes())?;
     }
     file.extend_from_slice(record)?;
     print!(rt; "{words}: ")?;

@@ -19,8 +19,6 @@ pub(crate) const B_TIE: &[u8] = b"\x0A\x00\x03\x00\x01\x02\x04\x00\x00\x00";
 /// Three entries, two ties.
 pub(crate) const END: &[u8] = b"\x07\x00\x04\x00\x03\x02\x00";
 
-pub(crate) const EXAMPLE_BYTES: usize = 56;
-
 pub(crate) fn example(heap: Global) -> Result<Vec<u8>, AllocError> {
     let records: [&[u8]; 7] = [HEAD, A, B, C, A_TIE, B_TIE, END];
     records.concat(heap)
@@ -35,7 +33,7 @@ pub(crate) fn changed(heap: Global, place: usize, byte: u8) -> Result<Vec<u8>, A
     Ok(file)
 }
 
-/// Another tie.
+/// Another tie, by its bytes.
 pub(crate) fn tie(first: u8, second: u8, mask: u32) -> [u8; 10] {
     let [m0, m1, m2, m3] = mask.to_le_bytes();
     [0x0A, 0, 3, 0, first, second, m0, m1, m2, m3]

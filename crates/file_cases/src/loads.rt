@@ -2,13 +2,11 @@
 use crate::example::{changed, example};
 use algebra::{Algebra, Spans};
 use programme::Programme;
-use qcue::{Fault, load, write};
+use qcue::{Fault, LONGEST_FILE, load, write};
 use std::alloc::{AllocError, Global};
 use std::io;
 
-/// A head, 48 entries of 16 bytes, a tie of 10 for each of 1128 pairs, and an end: no file that is written is longer.
-pub(crate) const LONGEST_FILE: usize = 14 + 48 * 16 + 1128 * 10 + 7;
-
+// A match: an answer is a number or a fault, and both are printed as they are.
 pub(crate) fn print_answer(rt: &HostRuntime, answer: Result<usize, Fault>) -> io::Result<()> {
     match answer {
         Ok(number) => println!(rt; "{number}"),

@@ -8,7 +8,7 @@ mod loads;
 mod vectors;
 
 use algebra::Spans;
-use example::{EXAMPLE_BYTES, example};
+use example::example;
 use loads::{print_answer, print_load};
 use programme::Programme;
 use qcue::{load, write};
@@ -30,11 +30,9 @@ fn main(rt: HostRuntime) -> io::Result<()> {
 fn cut_short(rt: &HostRuntime) -> io::Result<()> {
     println!(rt; "the example cut short")?;
     let file = example(rt.alloc())?;
-    for length in 0..EXAMPLE_BYTES {
-        if let Some(front) = file.as_slice().get(0..length) {
-            print!(rt; "{length}: ")?;
-            print_load(rt, front)?;
-        }
+    for length in 0..file.len() {
+        print!(rt; "{length}: ")?;
+        print_load(rt, &file[..length])?;
     }
     Ok(())
 }
@@ -76,11 +74,5 @@ fn buffers(rt: &HostRuntime) -> io::Result<()> {
 }
 
 fn untouched(buffer: &[u8]) -> usize {
-    let mut count = 0usize;
-    for byte in buffer {
-        if *byte == UNTOUCHED {
-            count = count.saturating_add(1);
-        }
-    }
-    count
+    buffer.iter().filter(|byte| **byte == UNTOUCHED).count()
 }

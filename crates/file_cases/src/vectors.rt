@@ -1,9 +1,9 @@
 // Files that came with their listings or refusals. Standard input has their names.
 use crate::loads::written;
-use algebra::{Algebra, House, Stamp, Standard};
+use algebra::Algebra;
 use listing::page;
 use programme::Programme;
-use qcue::{Fault, FileRefusal, Reason, head, load};
+use qcue::{algebra_of, load};
 use std::alloc::{AllocError, Global};
 use std::{fs, io};
 
@@ -40,22 +40,10 @@ fn agrees(rt: &HostRuntime, name: &str) -> io::Result<bool> {
     }
 }
 
-// The algebra that the file names.
-fn named(file: &[u8]) -> Result<House<Standard>, Fault> {
-    let Stamp { code, house } = head(file)?;
-    match Standard::by_code(code) {
-        Some(below) => Ok(House { below, mask: house }),
-        None => Err(Fault {
-            reason: Reason::File(FileRefusal::OtherStamp),
-            offset: 0,
-        }),
-    }
-}
-
 // Whether the file of the programme that the file loads as loads into a fresh one with the same names and sets, which has the
 // same file.
 fn comes_back(heap: Global, file: &[u8]) -> Result<bool, AllocError> {
-    let Ok(algebra) = named(file) else {
+    let Ok(algebra) = algebra_of(file) else {
         return Ok(false);
     };
     let mut programme = Programme::open(algebra);
@@ -68,15 +56,11 @@ fn comes_back(heap: Global, file: &[u8]) -> Result<bool, AllocError> {
 }
 
 fn are_same<B: Algebra>(one: &Programme<B>, other: &Programme<B>) -> bool {
-    for i in 0..one.entries() {
-        if one.name(i) != other.name(i) {
-            return false;
-        }
-        for j in 0..one.entries() {
-            if one.given(i, j) != other.given(i, j) || one.look(i, j) != other.look(i, j) {
-                return false;
-            }
-        }
-    }
     one.entries() == other.entries()
+        && (0..one.entries()).all(|i| {
+            one.name(i) == other.name(i)
+                && (0..one.entries()).all(|j| {
+                    one.given(i, j) == other.given(i, j) && one.look(i, j) == other.look(i, j)
+                })
+        })
 }

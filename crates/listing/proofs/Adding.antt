@@ -1,7 +1,8 @@
 -- A listing, line by line: entries, links, and the whole.
-use Rattle.std.proofs.Common.{◌≡◌, ℕ, suc, ◌+◌, ◌<◌, ◌≤◌, Bool, true, false, cond, eqb, List, [], ◌∷◌, ◌++◌, length, get_or, take, Some, None, Ok, Err, codes, decimal, Option, Result, sym, refl, ap, ◌∙◌, inl, inr, append_assoc, append-nil, add-zero, zero-add, arith}
+use Rattle.std.proofs.Common.{◌≡◌, ℕ, suc, ◌+◌, ◌<◌, ◌≤◌, Bool, true, false, cond, not, eqb, List, [], ◌∷◌, ◌++◌, length, get_or, take, Some, None, Ok, Err, codes, decimal, Option, Result, sym, refl, ap, ◌∙◌, inl, inr, append_assoc, append-nil, add-zero, zero-add, arith}
 use Rattle.std.proofs.lemmas.List.{take_more, take_all, length-take-le}
 use Rattle.std.proofs.lemmas.Bool.{cases_lt}
+use Rattle.std.specs.Int.{from_bool}
 use Rattle.std.specs.List.{flat_map}
 use Rattle.std.specs.Result.{result_unwrap_or}
 use Rattle.algebra.specs.Letters.{Ascii}
@@ -18,8 +19,9 @@ use Rattle.programme.specs.declared.refusals.Refusal.TheVariants.{Unprintable}
 use Rattle.programme.specs.declared.sheets.Sheet.{Sheet}
 use Rattle.programme.proofs.Growing.{each_entered}
 use Rattle.programme.proofs.Pairs.{rows_one, rows_none, rows_more, rows_past, rows_row, rows_all}
-use Rattle.listing.specs.Listed.{LinkRow, sheet_line_of, entry_line_of, entry_lines_of, link_line_of, IsLink, tied, tied as tied_of, ListingOf, OneListing}
-use Rattle.listing.specs.Added.{EntryAdded, LinksTo, NextLinks, RowsAdded, PairAdded, RowAdded, LinksAdded}
+use Rattle.listing.specs.declared.texts.Link.{Link}
+use Rattle.listing.specs.Listed.{sheet_line_of, entry_line_of, entry_lines_of, link_line_of, IsLink, tied, ListingOf, OneListing}
+use Rattle.listing.specs.Added.{EntryAdded, EntriesAdded, LinksTo, NextLinks, RowsAdded, PairAdded, RowAdded, LinksAdded}
 
 -- ---- lines one behind the other
 
@@ -27,7 +29,7 @@ joined_both : {X : Type 0} (f : X → List ℕ) (xs ys : List X) → flat_map f 
 joined_both f [] ys = refl
 joined_both f (x ∷ xs) ys = ap (λ (z : List ℕ). f x ++ z) (joined_both f xs ys) ∙ sym (append_assoc (f x) (flat_map f xs) (flat_map f ys))
 
-tied_both : (xs ys : List LinkRow) → tied (xs ++ ys) ≡ tied xs + tied ys
+tied_both : (xs ys : List Link) → tied (xs ++ ys) ≡ tied xs + tied ys
 tied_both [] ys = omega arith
 tied_both (x ∷ xs) ys = one (eqb x.given 0) _ _ (tied ys) (tied_both xs ys)
   where
@@ -38,7 +40,7 @@ tied_both (x ∷ xs) ys = one (eqb x.given 0) _ _ (tied ys) (tied_both xs ys)
 none_added : (code : ℕ) (old : List ℕ) → RowsAdded code [] old old 0
 none_added code old = record { lines = sym (append-nil old); counted = refl }
 
-both_added : (code : ℕ) (xs ys : List LinkRow) (old mid new : List ℕ) (n k : ℕ) → RowsAdded code xs old mid n →
+both_added : (code : ℕ) (xs ys : List Link) (old mid new : List ℕ) (n k : ℕ) → RowsAdded code xs old mid n →
     RowsAdded code ys mid new k → RowsAdded code (xs ++ ys) old new (n + k)
 both_added code xs ys old mid new n k p q = record {
   lines =
@@ -46,6 +48,10 @@ both_added code xs ys old mid new n k p q = record {
       ∙ ap (λ (z : List ℕ). old ++ z) (sym (joined_both (link_line_of code) xs ys));
   counted = omega (arith, p.counted, q.counted, tied_both xs ys);
 }
+
+pub one_at_most : (tied : Bool) → from_bool tied ≤ 1
+one_at_most true = omega arith
+one_at_most false = omega arith
 
 -- ---- entries
 
@@ -71,21 +77,23 @@ module _ (m : Meaning) (s : Sheet) where
   pub entry_missing : (k : ℕ) (old : List ℕ) → ((L : Ledger) → Shows m s L → length L.names ≤ k) → EntryAdded m s k old old
   entry_missing k old none L w o h = absurd (omega (arith, none L w))
 
-  pub entry_added : (k : ℕ) (name place old a b new : List ℕ) → ((L : Ledger) → Shows m s L → name ≡ get_or L.names k []) →
-      place ≡ decimal k ++ codes " " → a ≡ old ++ place → (Ascii name → b ≡ a ++ name) → new ≡ b ++ codes "\n" →
-      EntryAdded m s k old new
-  entry_added k name place old a b new is placed e f g L w o h =
+  pub entry_added : (k : ℕ) (name old a b new : List ℕ) → ((L : Ledger) → Shows m s L → name ≡ get_or L.names k []) →
+      a ≡ old ++ (decimal k ++ codes " ") → (Ascii name → b ≡ a ++ name) → new ≡ b ++ codes "\n" → EntryAdded m s k old new
+  entry_added k name old a b new is e f g L w o h =
       let name_is = is L w in
       let low : Ascii name = rw name_is (ascii m L k o h) in
-      g ∙ ap (λ (z : List ℕ). z ++ codes "\n") (f low ∙ ap (λ (z : List ℕ). z ++ name) (e ∙ ap (λ (z : List ℕ). old ++ z) placed))
+      g ∙ ap (λ (z : List ℕ). z ++ codes "\n") (f low ∙ ap (λ (z : List ℕ). z ++ name) e)
       ∙ append_assoc (old ++ (decimal k ++ codes " ")) name (codes "\n")
       ∙ append_assoc old (decimal k ++ codes " ") (name ++ codes "\n")
       ∙ ap (λ (z : List ℕ). old ++ z)
       (append_assoc (decimal k) (codes " ") (name ++ codes "\n") ∙ ap (λ (z : List ℕ). entry_line_of k z) name_is)
 
   -- the lines of the first k entries
-  abbrev pub EntriesTo : ℕ → List ℕ → Type 0
-  EntriesTo k text = (L : Ledger) → Shows m s L → Orderly m L → text ≡ entry_lines_of 0 (take k L.names)
+  abbrev pub EntriesTo : ℕ → List ℕ → List ℕ → Type 0
+  EntriesTo k old new = (L : Ledger) → Shows m s L → Orderly m L → new ≡ old ++ entry_lines_of 0 (take k L.names)
+
+  pub entries_none : (old : List ℕ) → EntriesTo 0 old old
+  entries_none old L w o = sym (append-nil old)
 
   -- ---- links
 
@@ -114,17 +122,21 @@ module _ (m : Meaning) (s : Sheet) where
           let z : ◌≡◌ {A = ℕ} 0 1 = cc in omega arith));
     }
 
-    pub pair_some : (set given : ℕ) (t : Result ℕ Refusal) (line old new : List ℕ) (n : ℕ) → seen ≡ Some set →
+    pub pair_some : (set given : ℕ) (t : Result ℕ Refusal) (line old new : List ℕ) → seen ≡ Some set →
         ((L : Ledger) → Shows m s L → ToldAs m L i j t) → given ≡ result_unwrap_or t 0 →
         line ≡ link_line_of m.stamp.code (record { first = i; second = j; given = given; settled = set }) → new ≡ old ++ line →
-        n ≡ cond (eqb given 0) 0 1 → PairAdded m s i j old new n
-    pair_some set given t line old new n some told given_is line_is e count = record {
+        PairAdded m s i j old new (from_bool (not (eqb given 0)))
+    pair_some set given t line old new some told given_is line_is e = record {
       rows = row ∷ [];
-      added = record { lines = rw (append-nil, ← line_is) e; counted = count };
+      added = record { lines = rw (append-nil, ← line_is) e; counted = turned (eqb given 0) };
       next = λ L w h before u. rows_more _ _ _ _ u row (refl, refl) (is_link L w h);
     }
       where
-        row : LinkRow
+        turned : (none : Bool) → from_bool (not none) ≡ cond none 0 (suc 0)
+        turned true = refl
+        turned false = refl
+
+        row : Link
         row = record { first = i; second = j; given = given; settled = set }
 
         linked : (L : Ledger) → Shows m s L → j < length L.names → Linked L.ties i j
@@ -149,7 +161,7 @@ module _ (m : Meaning) (s : Sheet) where
 
   -- the links of i with later entries below j
   pub record RowTo (i j : ℕ) (old new : List ℕ) (n : ℕ) : Type 0 where
-    pub rows : List LinkRow
+    pub rows : List Link
     pub added : RowsAdded m.stamp.code rows old new n
     pub next : (L : Ledger) → Shows m s L → NextLinks m L i (i + 1) i j rows
 
@@ -162,7 +174,7 @@ module _ (m : Meaning) (s : Sheet) where
 
   -- the links of the first i entries
   pub record LinksUpto (i : ℕ) (old new : List ℕ) (n : ℕ) : Type 0 where
-    pub rows : List LinkRow
+    pub rows : List Link
     pub added : RowsAdded m.stamp.code rows old new n
     pub upto : (L : Ledger) → Shows m s L → LinksTo m L i (i + 1) rows
 
@@ -179,17 +191,18 @@ module _ (m : Meaning) (s : Sheet) where
   -- ---- one more, and all, where there are n entries
 
   module _ (n : ℕ) (counted : (L : Ledger) → Shows m s L → n ≡ length L.names) where
-    pub entries_more : (k : ℕ) (old new : List ℕ) → k < n → EntriesTo k old → EntryAdded m s k old new → EntriesTo (k + 1) new
-    entries_more k old new h p q L w o =
+    pub entries_more : (k : ℕ) (old mid new : List ℕ) → k < n → EntriesTo k old mid → EntryAdded m s k mid new →
+        EntriesTo (k + 1) old new
+    entries_more k old mid new h p q L w o =
         let lt : k < length L.names = omega (arith, counted L w) in
         let long : length (take k L.names) ≡ k = length-take-le k L.names (omega arith) in
-        q L w o lt ∙ rw (p L w o, take_more L.names k [] lt, entries_push 0 (take k L.names) (get_or L.names k []), long, zero-add k) refl
+        let lines = entries_push 0 (take k L.names) (get_or L.names k []) in
+        q L w o lt ∙ rw (p L w o, take_more L.names k [] lt, lines, long, zero-add k) (append_assoc old _ _)
 
-    pub entries_all : (k : ℕ) (text : List ℕ) → n ≤ k → EntriesTo k text → (L : Ledger) → Shows m s L → Orderly m L →
-        text ≡ entry_lines_of 0 L.names
-    entries_all k text h p L w o =
+    pub entries_all : (k : ℕ) (old new : List ℕ) → n ≤ k → EntriesTo k old new → EntriesAdded m s old new
+    entries_all k old new h p L w o =
         let le : length L.names ≤ k = omega (arith, counted L w) in
-        p L w o ∙ ap (entry_lines_of 0) (take_all k L.names le)
+        rw (take_all k L.names le) at (p L w o)
 
     pub row_more : (i j : ℕ) (old mid new : List ℕ) (a b : ℕ) → j < n → RowTo i j old mid a → PairAdded m s i j mid new b →
         RowTo i (j + 1) old new (a + b)
@@ -228,22 +241,19 @@ module _ (m : Meaning) (s : Sheet) where
 
     -- ---- the whole
 
-    pub listed : (stamp : Stamp) (tied : ℕ) (none head entries links a text : List ℕ) → stamp ≡ m.stamp → none ≡ [] →
-        head ≡ sheet_line_of stamp n tied → ((L : Ledger) → Shows m s L → Orderly m L → entries ≡ entry_lines_of 0 L.names) →
-        LinksAdded m s none links tied → a ≡ head ++ entries → text ≡ a ++ links → (L : Ledger) → Shows m s L → Orderly m L →
-        ListingOf m L text
-    listed stamp tied none head entries links a text is nothing head_is lines p e f L w o = (
+    pub listed : (stamp : Stamp) (tied : ℕ) (none head lines all text : List ℕ) → stamp ≡ m.stamp → none ≡ [] →
+        head ≡ sheet_line_of stamp n tied → EntriesAdded m s none lines → LinksAdded m s lines all tied → text ≡ head ++ all →
+        (L : Ledger) → Shows m s L → Orderly m L → ListingOf m L text
+    listed stamp tied none head lines all text is nothing head_is e p f L w o = (
       p.rows,
       p.links L w,
-      f ∙ rw (e, head_is, is, lines L w o, p.added.lines, nothing, counted L w, p.added.counted)
-          (append_assoc (sheet_line_of m.stamp (length L.names) (tied_of p.rows)) (entry_lines_of 0 L.names)
-          (flat_map (link_line_of m.stamp.code) p.rows)),
+      f ∙ rw (head_is, is, p.added.lines, e L w o, nothing, counted L w, p.added.counted) refl,
     )
 
 -- ---- one listing
 
 -- a row is determined by its pair
-one_row : (m : Meaning) (L : Ledger) (x y : LinkRow) → IsLink m L x → IsLink m L y →
+one_row : (m : Meaning) (L : Ledger) (x y : Link) → IsLink m L x → IsLink m L y →
     (y.first ≡ x.first) × (y.second ≡ x.second) → x ≡ y
 one_row m L x y p q (d, e) =
     let given : y.given ≡ x.given =

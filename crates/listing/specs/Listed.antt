@@ -8,6 +8,7 @@ use Rattle.network.specs.Links.{Linked}
 use Rattle.programme.specs.Ledgers.{Ledger}
 use Rattle.programme.specs.Questions.{SettledSet, Told}
 use Rattle.programme.specs.Pairs.{RowsOf}
+use Rattle.listing.specs.declared.texts.Link.{Link}
 
 -- ---- numbers and sets as they are printed
 
@@ -29,13 +30,6 @@ abbrev pub given_letters_of : ℕ → ℕ → List ℕ
 given_letters_of code set = cond (set == 0) (codes "-") (spelling code set)
 
 -- ---- the lines
-
--- a link as it is listed: its two numbers, the given set, 0 if they are not tied, and the settled set
-pub record LinkRow : Type 0 where
-  pub first : ℕ
-  pub second : ℕ
-  pub given : ℕ
-  pub settled : ℕ
 
 -- `sheet`, the code, the house mask, how many entries and how many tied pairs
 abbrev pub sheet_fields : ℕ → List ℕ → ℕ → ℕ → List ℕ
@@ -60,32 +54,32 @@ abbrev pub link_fields : ℕ → ℕ → List ℕ → List ℕ → List ℕ
 link_fields first second given settled =
     decimal first ++ (codes " " ++ (decimal second ++ (codes " " ++ (given ++ (codes " " ++ (settled ++ codes "\n"))))))
 
-abbrev pub link_line_of : ℕ → LinkRow → List ℕ
+abbrev pub link_line_of : ℕ → Link → List ℕ
 link_line_of code row =
     link_fields row.first row.second (given_letters_of code row.given) (spelling code row.settled)
 
 -- ---- the listing of a ledger
 
 -- the row is a link of the ledger, the smaller number first, with what is given and what is settled there
-pub record IsLink (m : Meaning) (L : Ledger) (row : LinkRow) : Type 0 where
+pub record IsLink (m : Meaning) (L : Ledger) (row : Link) : Type 0 where
   pub smaller : row.first < row.second
   pub linked : Linked L.ties row.first row.second
   pub given : Told m L row.first row.second row.given
   pub settled : SettledSet m L row.first row.second row.settled
 
 -- the rows are all links, in rising order
-abbrev pub Links : Meaning → Ledger → List LinkRow → Type 0
+abbrev pub Links : Meaning → Ledger → List Link → Type 0
 Links m L rows = RowsOf (λ row. row.first) (λ row. row.second) (IsLink m L) (Linked L.ties) rows
 
 -- how many of the links are tied
-abbrev pub tied : List LinkRow → ℕ
+abbrev pub tied : List Link → ℕ
 tied [] = 0
 tied (row ∷ rows) = cond (row.given == 0) (tied rows) (suc (tied rows))
 
 -- the text is the listing of the ledger
 abbrev pub ListingOf : Meaning → Ledger → List ℕ → Type 0
 ListingOf m L text =
-    (rows : List LinkRow) × Links m L rows ×
+    (rows : List Link) × Links m L rows ×
     (text ≡ sheet_line_of m.stamp (length L.names) (tied rows) ++
     (entry_lines_of 0 L.names ++ flat_map (link_line_of m.stamp.code) rows))
 

@@ -1,12 +1,10 @@
 -- What the bytes of a file give: the listing of its sheet, or why there is none.
-use Rattle.std.specs.Prelude.{◌≡◌, ℕ, ◌<◌, ◌≤◌, ◌⊎◌, List, length, Some, Ok, Err, codes}
-use Rattle.algebra.specs.House.{housed}
+use Rattle.std.specs.Prelude.{ℕ, ◌<◌, ◌≤◌, ◌⊎◌, List, length, Ok, Err, codes}
 use Rattle.algebra.specs.Meaning.{Meaning}
-use Rattle.algebra.specs.Standard.{meaning_of, standard_of}
-use Rattle.algebra.specs.declared.interface.Stamp.{Stamp}
-use Rattle.algebra.specs.declared.standards.Standard.{Standard}
 use Rattle.programme.specs.Ledgers.{Ledger, blank}
-use Rattle.qcue.specs.Headed.{Headed}
+use Rattle.programme.specs.Shown.{Shows}
+use Rattle.programme.specs.declared.sheets.Sheet.{Sheet}
+use Rattle.qcue.specs.Headed.{Headed, Opened}
 use Rattle.qcue.specs.Loaded.{Loads, Says}
 use Rattle.qcue.specs.Refusals.{fault_text}
 use Rattle.qcue.specs.declared.loading.Expected.TheVariants.{Head}
@@ -14,14 +12,6 @@ use Rattle.qcue.specs.declared.refusals.Fault.{Fault}
 use Rattle.listing.specs.Listed.{ListingOf}
 use Rattle.listing.specs.declared.pages.Refused.{Refused}
 use Rattle.listing.specs.declared.pages.Refused.TheVariants.{TooLong, File}
-
--- m is the meaning of the algebra that the head names: the standard one with its code, cut by its house mask
-pub record Opened (bytes : List ℕ) (m : Meaning) : Type 0 where
-  pub stamp : Stamp
-  pub below : Standard
-  pub read : Headed bytes (Ok stamp)
-  pub named : standard_of stamp.code ≡ Some below
-  pub cut : m ≡ housed (meaning_of below) stamp.house
 
 -- the ledger of the algebra that the head names answers the file so, from blank
 pub record Answers (bytes : List ℕ) (fault : Fault) : Type 0 where
@@ -34,6 +24,14 @@ pub record Answers (bytes : List ℕ) (fault : Fault) : Type 0 where
 abbrev pub RefusedAs : List ℕ → Refused → Type 0
 RefusedAs bytes TooLong = 16384 < length bytes
 RefusedAs bytes (File fault) = (length bytes ≤ 16384) × (Headed bytes (Err fault) ⊎ Answers bytes fault)
+
+-- the bytes load into the sheet of a programme whose algebra means m
+pub record LoadedAs (bytes : List ℕ) (m : Meaning) (s : Sheet) : Type 0 where
+  pub short : length bytes ≤ 16384
+  pub opened : Opened bytes m
+  pub K : Ledger
+  pub loaded : Loads (Says m) m Head blank 0 bytes (Ok 0) K
+  pub shown : Shows m s K
 
 -- the bytes load, and the text is the listing of the ledger that they lead to
 pub record ListedAs (bytes text : List ℕ) : Type 0 where

@@ -1,15 +1,12 @@
--- Bits of a number: the complement, the low bits, and the turns of a loop over the bits that are set.
-use Rattle.std.proofs.Common.{◌≡◌, ℕ, zero, suc, ◌-◌, ◌/◌, ◌%◌, ◌^◌, ◌<◌, ◌≤◌, true, false, not, eqb, ◌≢◌, ◌⊎◌, sym, refl, ap, ◌∙◌, inl, inr, pow-suc, arith}
+-- Bits of a number: the complement, the low bits, and what is left without the lowest.
+use Rattle.std.proofs.Common.{◌≡◌, ℕ, zero, suc, ◌-◌, ◌/◌, ◌%◌, ◌^◌, ◌<◌, true, false, not, eqb, ◌≢◌, ◌⊎◌, sym, ap, ◌∙◌, inl, inr, pow-suc, arith}
 use lib.Bits.{bit_and}
-use lib.Count.{count_trailing_zeros, trailing_of_zero}
 use Rattle.std.proofs.lemmas.Nat.{pow_pos}
-use Rattle.std.proofs.lemmas.Bool.{cases_eq, cases_Bool, both_ways, and_from, and_right, eq-eqb, ne_eqb, not_from_true, not_from_false}
+use Rattle.std.proofs.lemmas.Bool.{cases_eq, cases_Bool, both_ways, and_parts, and_from, eq-eqb, ne_eqb, not-true, not_from_false}
 use Rattle.algebra.specs.Masks.{has}
 use Rattle.algebra.specs.Bits.{has_half, has_low, has_zero, half_below, has_below, has_cut, cut_has}
-use Rattle.algebra.proofs.Lowest.{lowest_has, has_others, others_less}
-
-parity : (n : ℕ) → (n % 2 ≡ 0) ⊎ (n % 2 ≡ 1)
-parity n = grind arith
+use Rattle.algebra.specs.Members.{Lowest}
+use Rattle.algebra.proofs.Lowest.{parity}
 
 -- the complement of x in n bits has what x has not
 pub has_not : (n x k : ℕ) → x < 2 ^ n → k < n → has (2 ^ n - 1 - x) k ≡ not (has x k)
@@ -46,56 +43,26 @@ low_bits n row one x e h =
 pub from_low_bits : (n row one x : ℕ) → one ≡ 2 ^ n → x < n → has row x ≡ true → has (bit_and row (one - 1)) x ≡ true
 from_low_bits n row one x e l h = cut_has row (one - 1) x h (rw e (has_ones n x l))
 
--- no bit is lower than the lowest
-pub lowest_least : (k n y : ℕ) → has n y ≡ true → count_trailing_zeros k n ≤ y
-unfolding count_trailing_zeros
-lowest_least zero n y h = omega arith
-lowest_least (suc k) n zero h =
-    elim (parity n) [
-      | inl e ↦ absurd (both_ways (has n 0) (has_low n ∙ ap (λ y. eqb y 1) e) h)
-      | inr e ↦ rw e (omega arith)
-    ]
-lowest_least (suc k) n (suc y) h =
-    elim (parity n) [
-      | inl e ↦ rw e (let l = lowest_least k (n / 2) y (has_half n y ∙ h) in omega arith)
-      | inr e ↦ rw e (omega arith)
-    ]
+-- ---- what is left of s without its lowest member k
 
-pub some_bit : (s : ℕ) → count_trailing_zeros 64 s < 48 → s ≢ 0
-some_bit s h e = let z = ap (count_trailing_zeros 64) e ∙ trailing_of_zero 64 in omega arith
+module _ {s k t : ℕ} (low : Lowest s k t) where
+  pub left_within : (x : ℕ) → has t x ≡ true → has s x ≡ true
+  left_within x h = (and_parts (has s x) _ (sym (low.others x) ∙ h)).0
 
--- k is the lowest bit of s, and rest is s without it
-pub record Lowest (s k rest : ℕ) : Type 0 where
-  pub there : has s k ≡ true
-  pub least : (x : ℕ) → has s x ≡ true → k ≤ x
-  pub fewer : (x : ℕ) → has rest x ≡ true → has s x ≡ true
-  pub others : (x : ℕ) → has s x ≡ true → (x ≡ k) ⊎ (has rest x ≡ true)
-  pub out : has rest k ≡ false
-  pub gone : (x : ℕ) → has rest x ≡ false → (x ≡ k) ⊎ (has s x ≡ false)
-  pub less : rest < s
+  pub left_not_lowest : (x : ℕ) → has t x ≡ true → x ≢ k
+  left_not_lowest x h e =
+      both_ways (eqb x k) (not-true _ (and_parts (has s x) _ (sym (low.others x) ∙ h)).1) (eq-eqb x k e)
 
-pub lowest_of : (s : ℕ) → s ≢ 0 → s < 2 ^ 64 → Lowest s (count_trailing_zeros 64 s) (bit_and s (s - 1))
-lowest_of s z f = record {
-  there = lowest_has 64 s z f;
-  least = lowest_least 64 s;
-  fewer = λ x h. (has_cut s (s - 1) x h).0;
-  others = others;
-  out =
-      has_others 64 s (count_trailing_zeros 64 s) z f
-      ∙ and_right (has s (count_trailing_zeros 64 s)) _ (not_from_true _ (eq-eqb (count_trailing_zeros 64 s) (count_trailing_zeros 64 s) refl));
-  gone = λ x h.
+  pub lowest_or_left : (x : ℕ) → has s x ≡ true → (x ≡ k) ⊎ (has t x ≡ true)
+  lowest_or_left x h =
+      elim (cases_eq x k) [
+        | inl e ↦ inl e
+        | inr n ↦ inr (low.others x ∙ and_from (has s x) _ h (not_from_false _ (ne_eqb x k n)))
+      ]
+
+  pub lowest_or_not : (x : ℕ) → has t x ≡ false → (x ≡ k) ⊎ (has s x ≡ false)
+  lowest_or_not x h =
       elim (cases_Bool (has s x)) [
-        | inl e ↦ elim (others x e) [ inl q ↦ inl q | inr q ↦ absurd (both_ways (has (bit_and s (s - 1)) x) h q) ]
+        | inl e ↦ elim (lowest_or_left x e) [ inl q ↦ inl q | inr q ↦ absurd (both_ways (has t x) h q) ]
         | inr e ↦ inr e
-      ];
-  less = others_less s z;
-}
-  where
-    others : (x : ℕ) → has s x ≡ true → (x ≡ count_trailing_zeros 64 s) ⊎ (has (bit_and s (s - 1)) x ≡ true)
-    others x h =
-        elim (cases_eq x (count_trailing_zeros 64 s)) [
-          | inl e ↦ inl e
-          | inr n ↦ inr (
-              has_others 64 s x z f
-              ∙ and_from (has s x) _ h (not_from_false _ (ne_eqb x (count_trailing_zeros 64 s) n)))
-        ]
+      ]

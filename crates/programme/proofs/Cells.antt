@@ -1,34 +1,31 @@
 -- Cells of the sets: two cells cut, and what the cells add up to.
-use Rattle.std.proofs.Common.{◌≡◌, ℕ, zero, suc, ◌<◌, ◌≤◌, ◌≢◌, List, [], ◌∷◌, length, get_or, set, sym, ap, ◌∙◌, inl, inr, arith, length-set, get_or-set_other, get_or-set_same}
+use Rattle.std.proofs.Common.{◌≡◌, ℕ, ◌+◌, ◌<◌, ◌≢◌, List, [], length, get_or, set, sum, sum_by, sym, ap, ◌∙◌, inl, inr, arith, length-set, get_or-set_other, get_or-set_same}
 use lib.Bits.{bit_and, and_le_l, and_le_r}
 use Rattle.std.proofs.lemmas.Bool.{cases_eq}
+use Rattle.std.proofs.lemmas.List.Sums.{sum_by-set}
 use Rattle.programme.specs.Networks.{cell}
-use Rattle.programme.specs.Steps.{Same, sum, sums}
-
-sum_less : (xs : List ℕ) (j v : ℕ) → j < length xs → v < get_or xs j 0 → sum (set xs j v) < sum xs
-sum_less [] j v h l = omega arith
-sum_less (x ∷ xs) zero v h l = omega arith
-sum_less (x ∷ xs) (suc j) v h l = let r = sum_less xs j v (omega arith) l in omega arith
-
-sum_no_more : (xs : List ℕ) (j v : ℕ) → v ≤ get_or xs j 0 → sum (set xs j v) ≤ sum xs
-sum_no_more [] j v l = omega arith
-sum_no_more (x ∷ xs) zero v l = omega arith
-sum_no_more (x ∷ xs) (suc j) v l = let r = sum_no_more xs j v l in omega arith
+use Rattle.programme.specs.Steps.{Same}
 
 -- v in row i and column j
 abbrev pub written : List (List ℕ) → ℕ → ℕ → ℕ → List (List ℕ)
 written rows i j v = set rows i (set (get_or rows i []) j v)
 
-sums_less : (rows : List (List ℕ)) (i j v : ℕ) → i < length rows → j < length (get_or rows i []) → v < cell rows i j →
-    sums (written rows i j v) < sums rows
-sums_less [] i j v h k l = omega arith
-sums_less (r ∷ rows) zero j v h k l = let q = sum_less r j v k l in omega arith
-sums_less (r ∷ rows) (suc i) j v h k l = let q = sums_less rows i j v (omega arith) k l in omega arith
+-- what is written in place of a number is added up in its place
+sums_written : (rows : List (List ℕ)) (i j v : ℕ) → i < length rows → j < length (get_or rows i []) →
+    sum_by sum (written rows i j v) + cell rows i j ≡ sum_by sum rows + v
+sums_written rows i j v h k =
+    let row = get_or rows i [] in
+    let outer = sum_by-set sum rows i (set row j v) [] h in
+    let inner : sum (set row j v) + get_or row j 0 ≡ sum row + v = sum_by-set (λ (x : ℕ). x) row j v 0 k in
+    omega arith
 
-sums_no_more : (rows : List (List ℕ)) (i j v : ℕ) → v ≤ cell rows i j → sums (written rows i j v) ≤ sums rows
-sums_no_more [] i j v l = omega arith
-sums_no_more (r ∷ rows) zero j v l = let q = sum_no_more r j v l in omega arith
-sums_no_more (r ∷ rows) (suc i) j v l = let q = sums_no_more rows i j v l in omega arith
+row_long : (rows : List (List ℕ)) (i j v x : ℕ) → i < length rows →
+    length (get_or (written rows i j v) x []) ≡ length (get_or rows x [])
+row_long rows i j v x h =
+    elim (cases_eq x i) [
+      | inl e ↦ rw e (ap length (get_or-set_same rows i (set (get_or rows i []) j v) [] h) ∙ length-set (get_or rows i []) j v)
+      | inr n ↦ ap length (get_or-set_other rows i x (set (get_or rows i []) j v) [] n)
+    ]
 
 cell_here : (rows : List (List ℕ)) (i j v : ℕ) → i < length rows → j < length (get_or rows i []) →
     cell (written rows i j v) i j ≡ v
@@ -50,7 +47,7 @@ pub record Cut (rows : List (List ℕ)) (i j there back : ℕ) (new : List (List
   pub on : i ≢ j → cell new i j ≡ bit_and (cell rows i j) there
   pub across : i ≢ j → cell new j i ≡ bit_and (cell rows j i) back
   pub off : (x y : ℕ) → ¬ Same i j x y → cell new x y ≡ cell rows x y
-  pub lighter : there < cell rows i j → sums new < sums rows
+  pub lighter : there < cell rows i j → sum_by sum new < sum_by sum rows
 
 abbrev pub once : List (List ℕ) → ℕ → ℕ → ℕ → List (List ℕ)
 once rows i j there = written rows i j (bit_and (cell rows i j) there)
@@ -77,7 +74,8 @@ module _ (rows : List (List ℕ)) (i j there back : ℕ) (hi : i < length rows) 
         ∙ cell_off rows i j (bit_and (cell rows i j) there) x y hi (λ a. q (inl a));
     lighter = λ w.
         let c = and_le_r (cell rows i j) there in
-        let a = sums_less rows i j (bit_and (cell rows i j) there) hi k (omega arith) in
-        let b = sums_no_more us j i (bit_and (cell us j i) back) (and_le_l (cell us j i) back) in
+        let d = and_le_l (cell us j i) back in
+        let a = sums_written rows i j (bit_and (cell rows i j) there) hi k in
+        let b = sums_written us j i (bit_and (cell us j i) back) hu (rw (row_long rows i j _ j hi) l) in
         omega arith;
   }

@@ -25,13 +25,13 @@ module _ (m : Meaning) (s : Sheet) (L : Ledger) (w : Shows m s L) (text : List �
         (λ h. absurd (omega arith)) (λ h. absurd (omega arith)),
   )
 
-  module _ (new : (k : ℕ) → k < s.count → get_or s.names k nobody ≢ held) (room : s.count < 48) where
+  module _ (new : ¬ ((k : ℕ) × (k < s.count) × (get_or s.names k nobody ≡ held))) (room : s.count < 48) where
     pub entered_answered : Answered m L (enter text) (Ok s.count)
     entered_answered = (
       w.counted,
       λ refusal.
           no_name_fault L text (λ _. Unit {0}) (λ _. sized) (λ _ (k, h, x). seen k h x)
-          (λ _ (k, h, e). let p : k < s.count = omega (arith, w.counted) in new k p (w.named k p ∙ ap name_of e ∙ sym is))
+          (λ _ (k, h, e). let p : k < s.count = omega (arith, w.counted) in new (k, p, w.named k p ∙ ap name_of e ∙ sym is))
           (λ _ h. omega (arith, w.counted)) refusal tt,
     )
 

@@ -1,13 +1,14 @@
--- Links that are added: one pair, the pairs of a row, the lower neighbours of an entry, and of every entry.
-use Rattle.std.proofs.Common.{◌≡◌, ℕ, ◌+◌, ◌<◌, ◌≤◌, true, false, ◌≢◌, ◌⊎◌, List, length, sym, refl, ◌∙◌, inl, inr, arith, length-set}
-use Rattle.std.proofs.lemmas.Bool.{cases_eq, cases_Bool, both_ways}
+-- Links that are added: one pair, the lower neighbours of an entry, and those of every entry.
+use Rattle.std.proofs.Common.{◌≡◌, ℕ, ◌+◌, ◌<◌, ◌≤◌, true, false, ◌⊎◌, List, length, sym, refl, ◌∙◌, inl, inr, arith, length-set}
+use Rattle.std.proofs.lemmas.Bool.{cases_eq, cases_Bool}
 use Rattle.algebra.specs.Masks.{has}
+use Rattle.algebra.specs.Members.{Lowest}
 use Rattle.network.specs.Ties.{Tie}
 use Rattle.network.specs.Links.{Linked, turned, filled}
 use Rattle.programme.specs.Networks.{bit_at}
 use Rattle.programme.specs.Steps.{Same, pending_at, Pended, Fresh, Grown, Each, Below, Fewer, Implied, FullFrom}
 use Rattle.programme.specs.declared.linkage.Network.{Network}
-use Rattle.programme.proofs.Bits.{Lowest}
+use Rattle.programme.proofs.Bits.{left_within, left_not_lowest, lowest_or_left, lowest_or_not}
 use Rattle.programme.proofs.Rows.{marked, mark_there, mark_more, mark_only, pending_back}
 
 -- what is said of the pair of i and j, both ways, is said of any pair that is the same
@@ -25,7 +26,7 @@ grown_none P s = record {
 }
 
 -- first pairs P, then pairs Q, all of them pairs R one way or the other
-pub grown_then : {P Q R : ℕ → ℕ → Type 0} (s t u : Network) → ((a b : ℕ) → P a b → R a b ⊎ R b a) →
+grown_then : {P Q R : ℕ → ℕ → Type 0} (s t u : Network) → ((a b : ℕ) → P a b → R a b ⊎ R b a) →
     ((a b : ℕ) → Q a b → R a b ⊎ R b a) → Grown P s t → Grown Q t u → Grown R s u
 grown_then {P} {Q} {R} s t u f g p q = record {
   sets = q.sets ∙ p.sets;
@@ -102,15 +103,6 @@ module _ (s m t : Network) (i j : ℕ) (hi : i < length s.links) (hj : j < lengt
         ];
   }
 
--- a pair of those from i to each of a set
-pub each_then : (s t u : Network) (i j set : ℕ) → has set j ≡ true → Grown (Each i set) s t → Grown (Same i j) t u →
-    Grown (Each i set) s u
-each_then s t u i j set h p q = grown_then s t u (λ a b x. inl x) one p q
-  where
-    one : (a b : ℕ) → Same i j a b → Each i set a b ⊎ Each i set b a
-    one a b (inl (x, y)) = inl (x, rw y h)
-    one a b (inr (x, y)) = inr (y, rw x h)
-
 -- ---- the lower neighbours of an entry
 
 -- rest has those of k that are still to be linked with higher ones, and i is the lowest of them
@@ -126,9 +118,9 @@ module _ (s t u : Network) (k i rest next missing : ℕ) (low : Lowest rest i ne
       one : (a b : ℕ) → Each i missing a b → Below s k a b
       one a b (e, h) =
           let n = part b h in
-          let r = low.fewer b n in
+          let r = left_within low b n in
           let l = low.least b r in
-          let d : b ≢ i = λ q. both_ways (has next i) low.out (rw q at n) in
+          let d = left_not_lowest low b n in
           rw e (record {
             order = omega arith;
             low = (near b r).0;
@@ -141,7 +133,7 @@ module _ (s t u : Network) (k i rest next missing : ℕ) (low : Lowest rest i ne
       let o = h.order in
       elim (cases_Bool (has rest b)) [
         | inr n ↦ p.more i b (done i b h (inr n))
-        | inl r ↦ elim (low.others b r) [
+        | inl r ↦ elim (lowest_or_left low b r) [
           | inl e ↦ absurd (omega arith)
           | inr x ↦ elim (cases_Bool (bit_at t.links i b)) [
             | inl y ↦ p.more i b y
@@ -160,12 +152,12 @@ module _ (s t u : Network) (k i rest next missing : ℕ) (low : Lowest rest i ne
 
   pub row_done : (a b : ℕ) → Below s k a b → (has next a ≡ false) ⊎ (has next b ≡ false) → bit_at u.links a b ≡ true
   row_done a b h (inl x) =
-      elim (low.gone a x) [
+      elim (lowest_or_not low a x) [
         | inl e ↦ rw e (from_i b (rw e at h))
         | inr n ↦ p.more a b (done a b h (inl n))
       ]
   row_done a b h (inr x) =
-      elim (low.gone b x) [
+      elim (lowest_or_not low b x) [
         | inl e ↦ rw e (to_i a (rw e at h))
         | inr n ↦ p.more a b (done a b h (inr n))
       ]

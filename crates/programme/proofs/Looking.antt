@@ -1,13 +1,13 @@
--- Looking at a sheet: what is seen between two entries, and what is given.
+-- Looking at a sheet: what is seen between two entries.
 use Rattle.std.proofs.Common.{◌≡◌, ℕ, Bool, true, ◌≢◌, length, Some, sym, refl, ◌∙◌}
 use Rattle.algebra.specs.Meaning.{Meaning, Lawful}
 use Rattle.network.specs.Links.{Linked}
-use Rattle.network.proofs.Links.{apart, joined}
+use Rattle.network.proofs.Links.{apart}
 use Rattle.network.proofs.Nets.{sound, unique}
 use Rattle.programme.specs.Networks.{bit_at, cell, net_of}
 use Rattle.programme.specs.Ledgers.{Ledger}
 use Rattle.programme.specs.Shown.{Shows}
-use Rattle.programme.specs.Questions.{SettledSet, Seen, Told}
+use Rattle.programme.specs.Questions.{SettledSet, Seen}
 use Rattle.programme.specs.declared.sheets.Sheet.{Sheet}
 
 module _ (m : Meaning) (s : Sheet) (L : Ledger) (w : Shows m s L) (i j : ℕ) where
@@ -34,11 +34,4 @@ module _ (m : Meaning) (s : Sheet) (L : Ledger) (w : Shows m s L) (i j : ℕ) wh
     same = λ q. absurd (d q);
     linked = λ x. (set, refl, rw e (settled_set l x));
     unlinked = λ _ n. absurd (n ((w.network.linked i j).0 (sym is ∙ t)));
-  }
-
-  pub told : Told m L i j (cell s.given i j)
-  told = record {
-    same = λ e. (w.given i j).none (λ x. (apart w.proper (joined x)).differ e);
-    given = w.given i j;
-    some = w.given_some i j;
   }

@@ -1,10 +1,9 @@
 -- Ties that numbers meet: what one pair tells, the pairs one after the other, and the whole answer.
-use Rattle.std.proofs.Common.{◌≡◌, ℕ, ◌+◌, ◌*◌, ◌<◌, ◌≤◌, Bool, ◌≢◌, ◌⊎◌, length, Some, None, Ok, Err, Decides, Option, Result, sym, refl, inl, inr, arith}
+use Rattle.std.proofs.Common.{◌≡◌, ℕ, ◌+◌, ◌*◌, ◌<◌, ◌≤◌, Bool, ◌⊎◌, length, Some, None, Ok, Err, Decides, Option, Result, sym, refl, inl, inr, arith}
 use Rattle.std.proofs.lemmas.Bool.{cases_eq, cases_lt}
-use Rattle.algebra.specs.Masks.{has}
 use Rattle.algebra.specs.Meaning.{Meaning}
 use Rattle.algebra.specs.Things.{Relation, In as Between}
-use Rattle.algebra.specs.Timed.{Group, Measured, Stands}
+use Rattle.algebra.specs.Timed.{Group, Measured}
 use Rattle.network.specs.Ties.{In, Tie, Among, Joins, Tied}
 use Rattle.network.proofs.Links.{apart, joined, tied?}
 use Rattle.programme.specs.Networks.{cell}
@@ -12,17 +11,10 @@ use Rattle.programme.specs.Ledgers.{Ledger}
 use Rattle.programme.specs.Shown.{Shows}
 use Rattle.programme.specs.Pairs.{Before}
 use Rattle.programme.specs.Fitted.{group_at, TieMet, PairMet, Grouped, Fits, FirstUnmet, Fitted}
+use Rattle.programme.proofs.Grouping.{group_before}
 use Rattle.programme.specs.declared.fitting.Misfit.{Misfit}
 use Rattle.programme.specs.declared.fitting.Misfit.TheVariants.{Miscounted, NoThing}
 use Rattle.programme.specs.declared.sheets.Sheet.{Sheet}
-
--- the bit of the reading that stands tells whether the set has it
-pub bit_tells : (m : Meaning) (Stand : ℕ → Relation Group) (g h : Group) (set a : ℕ) → set ≢ 0 → Stands m Stand g h a →
-    Decides (has set a) ((set ≡ 0) ⊎ Between Stand set g h)
-bit_tells m Stand g h set a some s = (
-  λ t. inr (a, t, s.stands),
-  λ w. elim w [ inl e ↦ absurd (some e) | inr (b, t, u) ↦ rw (← s.only b u) t ],
-)
 
 -- what is given between i and j, if anything is, has the reading that stands between their groups
 abbrev pub Clear : ℕ → (ℕ → Relation Group) → Sheet → Group → ℕ → ℕ → Type 0
@@ -86,9 +78,10 @@ module _ (m : Meaning) (size : ℕ) (Thing : Group → Type 0) (Stand : ℕ → 
   -- ---- the answer
 
   module _ (full : length numbers ≡ s.count * size) where
-    pub no_thing : (i : ℕ) × (i < s.count) × ¬ Thing (group_at size numbers i) →
+    pub no_thing : 0 < size → (i : ℕ) × (i * size + size ≤ length numbers) × ¬ Thing (group_at size numbers i) →
         Fitted size Thing Stand L numbers (Err NoThing)
-    no_thing (i, h, n) = (rw (← w.counted) full, (i, omega (arith, w.counted), n))
+    no_thing some (i, h, n) =
+        (rw (← w.counted) full, (i, omega (arith, w.counted, group_before _ _ _ i some h full), n))
 
     module _ (things : (i : ℕ) → i < s.count → Thing (group_at size numbers i)) where
       grouped : Grouped size Thing L numbers

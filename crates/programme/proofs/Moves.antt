@@ -3,6 +3,7 @@ use Rattle.std.proofs.Common.{◌≡◌, ℕ, ◌<◌, true, false, ◌≢◌, �
 use lib.Bits.{bit_and, and_le_l}
 use Rattle.std.proofs.lemmas.Bool.{cases_Bool, both_ways}
 use Rattle.algebra.specs.Masks.{has}
+use Rattle.algebra.specs.Members.{Lowest}
 use Rattle.algebra.specs.Meaning.{Meaning, Lawful, converse_of, composition_of}
 use Rattle.algebra.specs.Bits.{has_cut, cut_has}
 use Rattle.network.specs.Ties.{Tie}
@@ -15,7 +16,7 @@ use Rattle.programme.specs.Networks.{bit_at, cell, net_of}
 use Rattle.programme.specs.Steps.{Same, pending_at, weight, Trimmed, Within, Shut, Covered, Around}
 use Rattle.programme.specs.Steps.{Midway, Triangle, Link, Move, Met}
 use Rattle.programme.specs.declared.linkage.Network.{Network}
-use Rattle.programme.proofs.Bits.{Lowest}
+use Rattle.programme.proofs.Bits.{lowest_or_not}
 use Rattle.programme.proofs.Rows.{pending_back}
 use Rattle.programme.proofs.Growth.{same_by}
 
@@ -43,7 +44,7 @@ move_none m H s = record {
   holds = λ ties h w. w;
 }
 
-pub move_then : {m : Meaning} {H G : List Tie → Type 0} (s t u : Network) →
+move_then : {m : Meaning} {H G : List Tie → Type 0} (s t u : Network) →
     ((ties : List Tie) → H ties → Midway m ties s → G ties) → Move m H s t → Move m G t u → Move m H s u
 move_then s t u f p q = record {
   links = q.links ∙ p.links;
@@ -63,7 +64,7 @@ module _ (m : Meaning) (s t : Network) (i j there back : ℕ) (p : Trimmed i j t
   same_cell x y h = p.off x y (λ q. both_ways (pending_at t x y) h (pending_same t i j x y p.waits q))
 
   -- what changed is pending, so that a triangle with no side pending is as it was
-  pub trimmed_covered : (a b c : ℕ) → Covered m s a b c → Covered m t a b c
+  trimmed_covered : (a b c : ℕ) → Covered m s a b c → Covered m t a b c
   trimmed_covered a b c w f g h =
       rw (same_cell a b f, same_cell b c g, same_cell a c h)
       (w (not_pending s t a b a b (p.waits_more a b) f) (not_pending s t b c b c (p.waits_more b c) g)
@@ -191,7 +192,7 @@ module _ (m : Meaning) (s t u : Network) (i k j : ℕ) (p : Move m (Link i j) s 
   pub link_met : (rest next : ℕ) → Lowest rest k next → Around m u i k j →
       ((x : ℕ) → x < 48 → bit_at s.links i x ≡ true → bit_at s.links j x ≡ true → has rest x ≡ false → Around m t i x j) →
       (x : ℕ) → x < 48 → bit_at s.links i x ≡ true → bit_at s.links j x ≡ true → has next x ≡ false → Around m u i x j
-  link_met rest next low w f x l a b n = elim (low.gone x n) [
+  link_met rest next low w f x l a b n = elim (lowest_or_not low x n) [
     | inl e ↦ rw e w
     | inr o ↦ around_still x (f x l a b o)
   ]

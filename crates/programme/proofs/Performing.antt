@@ -1,49 +1,52 @@
--- Lines of calls: one call more.
-use Rattle.std.proofs.Common.{◌≡◌, ℕ, ◌+◌, ◌<◌, ◌≤◌, List, [], ◌∷◌, ◌++◌, map, length, get_or, take, set, Result, sym, ap, ◌∙◌}
-use Rattle.std.proofs.lemmas.List.{map_more, take_more_set, take_all}
+-- Lines of turns: one turn more, and what a line of calls says of the ledger.
+use Rattle.std.proofs.Common.{Bool, true, false, Some, None, Option, refl, ◌≡◌, ℕ, ◌+◌, ◌<◌, List, [], ◌∷◌, ◌++◌, map, length, get_or, take, set, Result, sym, ap, ◌∙◌}
+use Rattle.std.specs.Bool.{then_some}
+use Rattle.std.proofs.lemmas.List.{take_more, take_more_set}
 use Rattle.algebra.specs.Meaning.{Meaning, Lawful}
-use Rattle.programme.specs.Ledgers.{Ledger, blank, Ask, after}
+use Rattle.programme.specs.Ledgers.{Ledger, blank}
 use Rattle.programme.specs.Shown.{Shows}
 use Rattle.programme.specs.Kept.{Keeps}
+use Rattle.programme.specs.Line.{Line}
+use Rattle.programme.specs.Line as line
 use Rattle.programme.specs.Performed.{Stage, Performed, ended, next, ask_of, FromBlank}
 use Rattle.programme.proofs.Looking.{settled_set}
 use Rattle.programme.specs.declared.lines.Call.{Call}
 use Rattle.programme.specs.declared.refusals.Refusal.{Refusal}
 use Rattle.programme.specs.declared.sheets.Sheet.{Sheet}
 
--- the end of a line shows its ledger
-shown_last : {m : Meaning} {s t : Sheet} {L K : Ledger} {asks : List Ask} {answers : List (Result ℕ Refusal)} →
-    Performed m s L asks answers t K → Shows m t K
-shown_last (ended x) = x.shown
-shown_last (next x a p) = shown_last p
+module _ {T A : Type 0} where
+  then : (Kept : Sheet → T → A → Sheet → Type 0) {s t u : Sheet} {turns : List T} {answers : List A} (turn : T) (r : A) →
+      Line Kept s turns answers t → Kept t turn r u → Line Kept s (turns ++ (turn ∷ [])) (answers ++ (r ∷ [])) u
+  then Kept turn r line.ended k = line.next k line.ended
+  then Kept turn r (line.next j p) k = line.next j (then Kept turn r p k)
+
+  -- n is the meaning of the algebra that the programme holds
+  pub line_more : (Kept : Meaning → Sheet → T → A → Sheet → Type 0) (m n : Meaning) (s t u : Sheet) (turns : List T)
+      (answers : List A) (k : ℕ) (turn : T) (r : A) → n ≡ m → k < length turns → k < length answers →
+      turn ≡ get_or turns k turn → Line (Kept m) s (take k turns) (take k answers) t → Kept n t turn r u →
+      Line (Kept m) s (take (k + 1) turns) (take (k + 1) (set answers k r)) u
+  line_more Kept m n s t u turns answers k turn r same h j e p kept =
+      let asked = take_more turns k turn h ∙ ap (λ x. take k turns ++ (x ∷ [])) (sym e) in
+      rw (asked, take_more_set answers k r j) (then (Kept m) turn r p (rw same at kept))
 
 stage : {m : Meaning} {s : Sheet} {L : Ledger} → Lawful m → Shows m s L → Stage m s L
 stage l w = record { shown = w; settled = λ i j x. settled_set _ _ _ w i j l x }
 
-then : {m : Meaning} {s t u : Sheet} {L K : Ledger} {asks : List Ask} {answers : List (Result ℕ Refusal)}
-    (ask : Ask) (r : Result ℕ Refusal) → Performed m s L asks answers t K → Keeps m t ask r u →
-    Stage m u (after K ask r) → Performed m s L (asks ++ (ask ∷ [])) (answers ++ (r ∷ [])) u (after K ask r)
-then ask r (ended x) a y = next x a (ended y)
-then ask r (next x b p) a y = next x b (then ask r p a y)
+-- each call keeps to the ledger that the sheet shows then
+performed : {m : Meaning} {s u : Sheet} {L : Ledger} {calls : List Call} {answers : List (Result ℕ Refusal)} → Lawful m →
+    Shows m s L → Line (λ s call r t. Keeps m s (ask_of call) r t) s calls answers u →
+    (K : Ledger) × Performed m s L (map ask_of calls) answers u K
+performed l w line.ended = (_, ended (stage l w))
+performed l w (line.next k p) = let (K, q) = performed l (k.shown _ w) p in (K, next (stage l w) k q)
 
--- a line from its start to its end: n is the meaning of the algebra that the programme holds
+-- n is the meaning of the algebra that the programme holds
+pub from_blank : (m n : Meaning) (s u : Sheet) (calls : List Call) (answers : List (Result ℕ Refusal)) → n ≡ m → Lawful m →
+    Shows m s blank → Line (λ s call r t. Keeps n s (ask_of call) r t) s calls answers u →
+    FromBlank m (map ask_of calls) answers u
+from_blank m n s u calls answers same l w p = let (K, q) = performed l w (rw same at p) in (s, K, q)
 
-pub line_none : (m n : Meaning) (s : Sheet) → n ≡ m → Lawful m → Shows m s blank → FromBlank n [] [] s
-line_none m n s same l w = (s, blank, ended (rw same (stage l w)))
-
-pub line_more : (m n : Meaning) (t u : Sheet) (calls : List Call) (answers : List (Result ℕ Refusal)) (k : ℕ) (call : Call)
-    (r : Result ℕ Refusal) → n ≡ m → Lawful m → k < length calls → k < length answers → call ≡ get_or calls k call →
-    FromBlank m (map ask_of (take k calls)) (take k answers) t → Keeps n t (ask_of call) r u →
-    FromBlank m (map ask_of (take (k + 1) calls)) (take (k + 1) (set answers k r)) u
-line_more m n t u calls answers k call r same l h j e (s, K, p) k' =
-    let w = shown_last p in
-    let keeps = rw same at k' in
-    let asked = map_more ask_of calls k call h ∙ ap (λ (c : Call). map ask_of (take k calls) ++ (ask_of c ∷ [])) (sym e) in
-    let told = take_more_set answers k r j in
-    let line = then (ask_of call) r p keeps (stage l (keeps.shown K w)) in
-    (s, after K (ask_of call) r, rw (asked, told) line)
-
-pub line_all : (m n : Meaning) (t : Sheet) (calls : List Call) (answers : List (Result ℕ Refusal)) (k : ℕ) → n ≡ m →
-    length calls ≤ k → length answers ≤ k → FromBlank n (map ask_of (take k calls)) (take k answers) t →
-    FromBlank m (map ask_of calls) answers t
-line_all m n t calls answers k same h j p = rw (same, take_all k calls h, take_all k answers j) at p
+-- what holds of a value that is given on a test
+pub given_on : {X : Type 0} (P : X → Type 0) (b : Bool) (x : X) (o : Option X) → o ≡ then_some b x → (b ≡ true → P x) →
+    elim o as (λ _. Type 0) [ None ↦ Unit {0} | Some y ↦ P y ]
+given_on P true x o e h = rw e (h refl)
+given_on P false x o e h = rw e tt

@@ -1,14 +1,14 @@
 -- Rows of bits: a bit set in one row, the lowest bit of a row taken out, and the rows added up.
-use Rattle.std.proofs.Common.{◌≡◌, ℕ, zero, suc, ◌-◌, ◌*◌, ◌^◌, ◌<◌, ◌≤◌, true, false, ◌≢◌, ◌⊎◌, List, length, get_or, set, sym, refl, ap, ◌∙◌, subst, inl, inr, arith, get_or-set_other, get_or-set_same}
-use lib.Bits.{bit_and, bit_or}
-use lib.Count.{count_trailing_zeros}
+use Rattle.std.proofs.Common.{◌≡◌, ℕ, zero, suc, ◌*◌, ◌^◌, ◌<◌, ◌≤◌, true, false, ◌≢◌, ◌⊎◌, List, length, get_or, set, sym, refl, ap, ◌∙◌, subst, inl, inr, arith, get_or-set_other, get_or-set_same}
+use lib.Bits.{bit_or}
 use Rattle.std.proofs.lemmas.Bool.{cases_eq, or_cases, or_left, or_right, or_from, eq-eqb, eqb-true}
 use Rattle.algebra.specs.Masks.{has}
 use Rattle.algebra.specs.Bits.{has_or, has_one}
+use Rattle.algebra.specs.Members.{Lowest}
 use Rattle.programme.specs.Networks.{bit_at}
 use Rattle.programme.specs.Steps.{pending_at, Pended, Took, tally, load}
 use Rattle.programme.specs.declared.linkage.Network.{Network}
-use Rattle.programme.proofs.Bits.{Lowest, lowest_of}
+use Rattle.programme.proofs.Bits.{left_within, lowest_or_left}
 
 -- ---- a bit set in one of the rows
 
@@ -49,16 +49,16 @@ module _ (rows : List ℕ) (i j : ℕ) (l : i < length rows) where
 
 -- ---- pending, in the one row or the other
 
-pub pending_cases : (w : Network) (x y : ℕ) → pending_at w x y ≡ true →
+pending_cases : (w : Network) (x y : ℕ) → pending_at w x y ≡ true →
     (bit_at w.pending x y ≡ true) ⊎ (bit_at w.pending y x ≡ true)
 unfolding pending_at
 pending_cases w x y h = or_cases (bit_at w.pending x y) (bit_at w.pending y x) h
 
-pub pending_row : (w : Network) (x y : ℕ) → bit_at w.pending x y ≡ true → pending_at w x y ≡ true
+pending_row : (w : Network) (x y : ℕ) → bit_at w.pending x y ≡ true → pending_at w x y ≡ true
 unfolding pending_at
 pending_row w x y h = or_left (bit_at w.pending x y) (bit_at w.pending y x) h
 
-pub pending_column : (w : Network) (x y : ℕ) → bit_at w.pending y x ≡ true → pending_at w x y ≡ true
+pending_column : (w : Network) (x y : ℕ) → bit_at w.pending y x ≡ true → pending_at w x y ≡ true
 unfolding pending_at
 pending_column w x y h = or_right (bit_at w.pending x y) (bit_at w.pending y x) h
 
@@ -140,46 +140,36 @@ pub load_below : (w : Network) → load w < 2 ^ 70
 unfolding load
 load_below w = let a = tally_below 48 w.pending in omega arith
 
-module _ (rows : List ℕ) (i : ℕ) (l : i < length rows) (z : get_or rows i 0 ≢ 0) (f : get_or rows i 0 < 2 ^ 64) where
-  abbrev lowered : List ℕ
-  lowered = set rows i (bit_and (get_or rows i 0) (get_or rows i 0 - 1))
+-- v is row i without its lowest member j
+module _ (rows : List ℕ) (i j v : ℕ) (l : i < length rows) (low : Lowest (get_or rows i 0) j v) where
+  row_here : get_or (set rows i v) i 0 ≡ v
+  row_here = get_or-set_same rows i v 0 l
 
-  low : Lowest (get_or rows i 0) (count_trailing_zeros 64 (get_or rows i 0)) (bit_and (get_or rows i 0) (get_or rows i 0 - 1))
-  low = lowest_of (get_or rows i 0) z f
+  row_there : (x : ℕ) → x ≢ i → get_or (set rows i v) x 0 ≡ get_or rows x 0
+  row_there x n = get_or-set_other rows i x v 0 n
 
-  row_here : get_or lowered i 0 ≡ bit_and (get_or rows i 0) (get_or rows i 0 - 1)
-  row_here = get_or-set_same rows i (bit_and (get_or rows i 0) (get_or rows i 0 - 1)) 0 l
-
-  row_there : (x : ℕ) → x ≢ i → get_or lowered x 0 ≡ get_or rows x 0
-  row_there x n = get_or-set_other rows i x (bit_and (get_or rows i 0) (get_or rows i 0 - 1)) 0 n
-
-  lowered_fewer : (x y : ℕ) → bit_at lowered x y ≡ true → bit_at rows x y ≡ true
+  lowered_fewer : (x y : ℕ) → bit_at (set rows i v) x y ≡ true → bit_at rows x y ≡ true
   lowered_fewer x y h =
       elim (cases_eq x i) [
-        | inl e ↦ rw e (low.fewer y (sym (ap (λ k. has k y) row_here) ∙ rw e at h))
+        | inl e ↦ rw e (left_within low y (sym (ap (λ k. has k y) row_here) ∙ rw e at h))
         | inr n ↦ sym (ap (λ k. has k y) (row_there x n)) ∙ h
       ]
 
-  lowered_only : (x y : ℕ) → bit_at rows x y ≡ true →
-      (bit_at lowered x y ≡ true) ⊎ ((x ≡ i) × (y ≡ count_trailing_zeros 64 (get_or rows i 0)))
+  lowered_only : (x y : ℕ) → bit_at rows x y ≡ true → (bit_at (set rows i v) x y ≡ true) ⊎ ((x ≡ i) × (y ≡ j))
   lowered_only x y h =
       elim (cases_eq x i) [
-        | inl e ↦ elim (low.others y (rw e at h)) [
+        | inl e ↦ elim (lowest_or_left low y (rw e at h)) [
           | inl q ↦ inr (e, q)
           | inr q ↦ inl (rw e (ap (λ k. has k y) row_here ∙ q))
         ]
         | inr n ↦ inl (ap (λ k. has k y) (row_there x n) ∙ h)
       ]
 
-module _ (z s t : Network) (i : ℕ) (o : s ≡ z) (h : i < 48) (l : i < length s.pending) (n : get_or s.pending i 0 ≢ 0)
-    (f : get_or s.pending i 0 < 2 ^ 64) (k : count_trailing_zeros 64 (get_or s.pending i 0) < 48)
-    (a : t.links ≡ s.links) (b : t.sets ≡ s.sets)
-    (e : t.pending ≡ set s.pending i (bit_and (get_or s.pending i 0) (get_or s.pending i 0 - 1))) where
+module _ (z s t : Network) (i j v : ℕ) (o : s ≡ z) (h : i < 48) (l : i < length s.pending) (k : j < 48)
+    (f : get_or s.pending i 0 < 2 ^ 64) (low : Lowest (get_or s.pending i 0) j v)
+    (a : t.links ≡ s.links) (b : t.sets ≡ s.sets) (e : t.pending ≡ set s.pending i v) where
   abbrev rows : List ℕ
   rows = s.pending
-
-  abbrev j : ℕ
-  j = count_trailing_zeros 64 (get_or s.pending i 0)
 
   took : Took i j s t
   unfolding load
@@ -188,24 +178,24 @@ module _ (z s t : Network) (i : ℕ) (o : s ≡ z) (h : i < 48) (l : i < length 
     second_in = k;
     links = a;
     sets = b;
-    was = pending_row s i j (low rows i l n f).there;
+    was = pending_row s i j low.there;
     fewer = λ x y p.
         elim (pending_cases t x y p) [
-          | inl q ↦ pending_row s x y (lowered_fewer rows i l n f x y (rw e at q))
-          | inr q ↦ pending_column s x y (lowered_fewer rows i l n f y x (rw e at q))
+          | inl q ↦ pending_row s x y (lowered_fewer rows i j v l low x y (rw e at q))
+          | inr q ↦ pending_column s x y (lowered_fewer rows i j v l low y x (rw e at q))
         ];
     only = λ x y p.
         elim (pending_cases s x y p) [
-          | inl q ↦ elim (lowered_only rows i l n f x y q) [
+          | inl q ↦ elim (lowered_only rows i j v l low x y q) [
             | inl r ↦ inl (pending_row t x y (rw e r))
             | inr r ↦ inr (inl r)
           ]
-          | inr q ↦ elim (lowered_only rows i l n f y x q) [
+          | inr q ↦ elim (lowered_only rows i j v l low y x q) [
             | inl r ↦ inl (pending_column t x y (rw e r))
             | inr r ↦ inr (inr (r.1, r.0))
           ]
         ];
-    lighter = rw e (tally_less 48 rows i _ h l (low rows i l n f).less f);
+    lighter = rw e (tally_less 48 rows i _ h l low.less f);
   }
 
   pub took_by : Took i j z t

@@ -1,48 +1,53 @@
--- Names: they are equal if their parts are, copied byte by byte, and known by their bytes.
-use Rattle.std.proofs.Common.{◌≡◌, ℕ, suc, ◌+◌, ◌-◌, ◌<◌, ◌≤◌, List, [], ◌∷◌, ◌++◌, length, get_or, take, set, replicate, sym, refl, ap, ◌∙◌, append_assoc, arith, length-take}
-use Rattle.std.proofs.lemmas.List.{take_all, take_at, take_more, set_at, length-take-le}
-use Rattle.programme.specs.Spelled.{name_of}
+-- Names: they are equal if their parts are, and known by their bytes.
+use Rattle.std.proofs.Common.{◌≡◌, ℕ, ◌-◌, ◌<◌, ◌≤◌, Bool, ◌&&◌, eqb, Decides, List, length, get_or, take, replicate, sym, refl, ap, ◌∙◌, subst, arith, length-take}
+use Rattle.std.proofs.lemmas.List.{take_at, get_or-take}
+use Rattle.std.proofs.lemmas.List.Elements.{contains_decides, at_from_Contains, Contains-get_or}
+use Rattle.std.proofs.lemmas.Bool.Decides.{Decides-and, Decides-eqb, Decides-like}
+use Rattle.std.proofs.lemmas.Slice.Eq.{bytes_eq-Decides}
+use Rattle.std.specs.Cmp.Lexicographic.{pointwise}
+use Rattle.std.specs.List.{IsAnyAnswer, HoldsAt, Contains}
+use Rattle.programme.specs.Spelled.{name_of, nobody}
 use Rattle.programme.specs.declared.naming.Name.{Name}
 
 made : List ℕ → ℕ → Name
 made bytes len = record { bytes = bytes; len = len }
 
-pub name_ext : (a b : Name) → a.bytes ≡ b.bytes → a.len ≡ b.len → a ≡ b
+name_ext : (a b : Name) → a.bytes ≡ b.bytes → a.len ≡ b.len → a ≡ b
 unfolding made
 name_ext a b e f = ap (λ (bytes : List ℕ). made bytes a.len) e ∙ ap (made b.bytes) f
 
--- the first k bytes, and zeroes up to twelve
-abbrev pub copied_to : List ℕ → ℕ → List ℕ
-copied_to text k = take k text ++ replicate (12 - k) 0
+-- what `==` says of two names
+same_names : (a b : Name) → Decides (pointwise eqb a.bytes b.bytes && eqb a.len b.len) (a ≡ b)
+same_names a b =
+    Decides-like _ (λ p. name_ext a b p.0 p.1) (λ e. (ap (λ (n : Name). n.bytes) e, ap (λ (n : Name). n.len) e))
+    (Decides-and _ _ (bytes_eq-Decides a.bytes b.bytes) (Decides-eqb a.len b.len))
 
-pub copied_more : (text : List ℕ) (k : ℕ) → k < length text → length text ≤ 12 →
-    set (copied_to text k) k (get_or text k 0) ≡ copied_to text (k + 1)
-copied_more text k h l =
-    let rest : 12 - k ≡ suc (12 - (k + 1)) = omega arith in
-    let zeroes : List ℕ = replicate (12 - (k + 1)) 0 in
-    ap (λ (n : ℕ). set (take k text ++ replicate n 0) k (get_or text k 0)) rest
-    ∙ set_at (take k text) 0 zeroes (get_or text k 0) k (length-take-le k text (omega arith))
-    ∙ sym (
-    ap (λ (bytes : List ℕ). bytes ++ zeroes) (take_more text k 0 h)
-    ∙ append_assoc (take k text) (get_or text k 0 ∷ []) zeroes)
+-- .. and `contains` of the first n of some
+pub known_among : (names : List Name) (n : ℕ) (name : Name) (r : Bool) → n ≤ length names →
+    IsAnyAnswer (λ y b. (pointwise eqb y.bytes name.bytes && eqb y.len name.len) ≡ b) (take n names) r →
+    Decides r ((k : ℕ) × (k < n) × (get_or names k nobody ≡ name))
+known_among names n name r h a =
+    Decides-like r to from (contains_decides _ same_names (take n names) name r a)
+  where
+    to : (k : ℕ) × (k < length (take n names)) × HoldsAt (λ y. y ≡ name) (take n names) k →
+        (k : ℕ) × (k < n) × (get_or names k nobody ≡ name)
+    to (k, l, e) =
+        let b : k < n = omega (arith, length-take n names) in
+        (k, b, sym (get_or-take n names k nobody b) ∙ e nobody)
 
-pub copied_all : (text bytes : List ℕ) (k : ℕ) → length text ≤ k → k ≤ length text → bytes ≡ copied_to text k →
-    bytes ≡ (name_of text).bytes
-copied_all text bytes k h g e =
-    let q : k ≡ length text = omega arith in
-    e
-    ∙ ap (λ (front : List ℕ). front ++ replicate (12 - k) 0) (take_all k text h)
-    ∙ ap (λ (n : ℕ). text ++ replicate (12 - n) 0) q
+    from : (k : ℕ) × (k < n) × (get_or names k nobody ≡ name) →
+        (k : ℕ) × (k < length (take n names)) × HoldsAt (λ y. y ≡ name) (take n names) k
+    from (k, l, e) =
+        let b : k < length (take n names) = omega (arith, length-take n names) in
+        at_from_Contains (take n names) name
+        (subst (λ y. Contains (take n names) y) (get_or-take n names k nobody l ∙ e) (Contains-get_or (take n names) k nobody b))
 
 -- the bytes that a name has
-abbrev pub spelt : Name → List ℕ
+abbrev spelt : Name → List ℕ
 spelt name = take name.len name.bytes
 
-pub spelt_of : (text : List ℕ) → spelt (name_of text) ≡ text
+spelt_of : (text : List ℕ) → spelt (name_of text) ≡ text
 spelt_of text = take_at text (replicate (12 - length text) 0) (length text) refl
 
 pub name_same : (a b : List ℕ) → name_of a ≡ name_of b → a ≡ b
 name_same a b e = sym (spelt_of a) ∙ ap spelt e ∙ spelt_of b
-
-pub spelt_short : (name : Name) (bytes : List ℕ) → bytes ≡ spelt name → name.len ≤ 12 → length bytes ≤ 12
-spelt_short name bytes e h = omega (arith, ap length e ∙ length-take name.len name.bytes)

@@ -1,5 +1,6 @@
 -- Taking a tie: the sheet with one tie more.
-use Rattle.std.proofs.Common.{◌≡◌, ℕ, ◌<◌, true, false, ◌≢◌, List, length, get_or, Ok, Err, refl, ap, ◌∙◌, arith}
+use Rattle.std.proofs.Common.{◌≡◌, ℕ, ◌<◌, ◌≢◌, List, length, get_or, Ok, Err, sym, refl, ap, ◌∙◌, inl, inr, arith}
+use Rattle.std.proofs.lemmas.Bool.{cases_Bool}
 use Rattle.algebra.specs.Meaning.{Meaning, Lawful}
 use Rattle.network.specs.Ties.{In, Tie, Apart, Proper, Tied, Allowed, Given}
 use Rattle.network.specs.Candidates.{Net, ClosedCandidate, Settled, Emptied}
@@ -7,11 +8,11 @@ use Rattle.network.specs.Closing.{adding}
 use Rattle.network.proofs.Sets.{empty, none}
 use Rattle.network.proofs.Links.{apart, joined}
 use Rattle.network.proofs.Nets.{clash_shows}
-use Rattle.programme.specs.Networks.{tie_of, net_of, Reflects, EmptiedIs}
+use Rattle.programme.specs.Networks.{bit_at, tie_of, net_of, Reflects, Empties}
 use Rattle.programme.specs.Spelled.{nobody}
 use Rattle.programme.specs.Ledgers.{Ledger, tie, taken, Below, Answered}
 use Rattle.programme.specs.Shown.{Shows}
-use Rattle.programme.specs.Written.{GivenCuts}
+use Rattle.programme.specs.Written.{SameEntries, GivenCuts}
 use Rattle.programme.specs.Timely.{TimelyTie}
 use Rattle.programme.specs.declared.linkage.Network.{Network}
 use Rattle.programme.specs.declared.naming.Name.{Name}
@@ -38,10 +39,6 @@ given_full : (m : Meaning) (ties : List Tie) (S : Net) (i j g : ℕ) → Settled
 given_full m ties S i j g s clear x w e =
     clear (i, j, joined x, empty (S i j) (λ r h. none r g e ((w.some x r).1 (closed_allowed m ties S i j r s.fit x h))))
 
--- the sheet with another network
-abbrev with_network : Sheet → Network → Sheet
-with_network s w = record { names = s.names; count = s.count; given = s.given; network = w }
-
 module _ (m : Meaning) (l : Lawful m) (s t : Sheet) (w : Network) (i j mask : ℕ) (hi : i < s.count) (hj : j < s.count)
     (differ : i ≢ j) (cuts : GivenCuts m s i j mask t)
     (settles : (ties : List Tie) → Proper 48 ties → Reflects m t.network ties → Reflects m w (adding ties (tie_of i j mask)))
@@ -65,26 +62,25 @@ module _ (m : Meaning) (l : Lawful m) (s t : Sheet) (w : Network) (i j mask : �
   reflects : Reflects m w ties
   reflects = settles L.ties (λ t a. wider (shows.proper t a)) (rw cuts.network shows.network)
 
-  module _ (full : EmptiedIs w false) where
+  module _ (full : ¬ Empties w) where
     clear : ¬ Emptied ties (net_of w)
-    clear (a, b, x, e) =
-        let p = wider (apart proper x) in
-        full a b p.first_in p.second_in ((reflects.linked a b).1 x) e
+    clear (a, b, x, e) = let p = wider (apart proper x) in full (a, b, p.first_in, p.second_in, e)
 
-    pub taken_shows : Shows m (with_network t w) (taken L (tie i j mask))
-    taken_shows =
+    -- u is t with the network w
+    pub taken_shows : (u : Sheet) → SameEntries t u → u.given ≡ t.given → u.network ≡ w → Shows m u (taken L (tie i j mask))
+    taken_shows u same e f =
         let given = given_more m l L.ties i j mask differ s t shows.given shows.given_some cuts in
         record {
-          counted = cuts.entries.count ∙ shows.counted;
-          room = omega (arith, cuts.entries.count, shows.room);
+          counted = same.count ∙ cuts.entries.count ∙ shows.counted;
+          room = u.small;
           named = λ k h.
-              ap (λ (names : List Name). get_or names k nobody) cuts.entries.names
-              ∙ shows.named k (omega (arith, cuts.entries.count));
+              ap (λ (names : List Name). get_or names k nobody) (same.names ∙ cuts.entries.names)
+              ∙ shows.named k (omega (arith, same.count, cuts.entries.count));
           proper = proper;
-          given = given;
-          given_some = λ a b x. given_full m ties (net_of w) a b _ reflects.settled clear x (given a b);
-          network = reflects;
-          clear = clear;
+          given = λ a b. rw e (given a b);
+          given_some = λ a b x. rw e (given_full m ties (net_of w) a b _ reflects.settled clear x (given a b));
+          network = rw f reflects;
+          clear = rw f clear;
         }
 
     pub taken_answered : Below m L (tie i j mask) 10 → Answered m L (tie i j mask) (Ok 0)
@@ -97,9 +93,15 @@ module _ (m : Meaning) (l : Lawful m) (s t : Sheet) (w : Network) (i j mask : �
       λ f. absurd (clear ((empty_or_timed m (length L.names) ties (net_of w) l a proper plain reflects.settled).1 f)),
     )
 
-  module _ (found : EmptiedIs w true) where
+  module _ (found : Empties w) where
+    -- what is not linked has the universe, which is not empty
     emptied : Emptied ties (net_of w)
-    emptied = let (a, b, ha, hb, on, e) = found in (a, b, (reflects.linked a b).0 on, e)
+    emptied =
+        let (a, b, ha, hb, e) = found in
+        elim (cases_Bool (bit_at w.links a b)) [
+          | inl on ↦ (a, b, (reflects.linked a b).0 on, e)
+          | inr off ↦ absurd (none 0 m.universe (sym (reflects.free a b ha hb off) ∙ e) l.identity_in)
+        ]
 
     pub clash_answered : Below m L (tie i j mask) 10 → Answered m L (tie i j mask) (Err Clash)
     clash_answered below = ((net_of w, reflects.settled, emptied), below)

@@ -1,5 +1,5 @@
 -- The turns of closing: a pending pair is taken off and its triangles narrowed; where none is left the network is settled.
-use Rattle.std.proofs.Common.{◌≡◌, ℕ, ◌+◌, ◌*◌, ◌^◌, ◌<◌, true, false, ◌⊎◌, ◌↔◌, List, sym, ap, ◌∙◌, subst, inl, inr, arith}
+use Rattle.std.proofs.Common.{sum, sum_by, ◌≡◌, ℕ, ◌+◌, ◌*◌, ◌^◌, ◌<◌, true, false, ◌⊎◌, ◌↔◌, List, sym, ap, ◌∙◌, subst, inl, inr, arith}
 use Rattle.std.proofs.lemmas.Bool.{cases_Bool, both_ways, or_parts}
 use Rattle.algebra.specs.Masks.{has}
 use Rattle.algebra.specs.Meaning.{Meaning, Lawful, Reading}
@@ -11,7 +11,7 @@ use Rattle.network.specs.Closing.{Holding}
 use Rattle.network.proofs.Links.{apart}
 use Rattle.network.proofs.Closing.{finishing}
 use Rattle.programme.specs.Networks.{bit_at, cell, net_of, Reflects}
-use Rattle.programme.specs.Steps.{Same, pending_at, sums, weight, load, Shut, Covered, Around, Midway, Ready, Link, Move, Took}
+use Rattle.programme.specs.Steps.{Same, pending_at, weight, load, Shut, Covered, Around, Midway, Ready, Link, Move, Took}
 use Rattle.programme.specs.declared.linkage.Network.{Network}
 use Rattle.programme.proofs.Rows.{load_below}
 use Rattle.programme.proofs.Moves.{not_pending, idle_back}
@@ -20,7 +20,7 @@ use Rattle.programme.proofs.Moves.{not_pending, idle_back}
 pub turn_less : {m : Meaning} {H : List Tie → Type 0} (s t u : Network) (i j : ℕ) → Took i j s t → Move m H t u →
     weight u * 2 ^ 70 + load u < weight s * 2 ^ 70 + load s
 turn_less s t u i j p q =
-    let e : weight t ≡ weight s = unfold weight in ap sums p.sets in
+    let e : weight t ≡ weight s = unfold weight in ap (sum_by sum) p.sets in
     let l = p.lighter in
     let b = load_below u in
     elim q.less [
@@ -28,7 +28,7 @@ turn_less s t u i j p q =
       | inr f ↦ omega arith
     ]
 
-pub took_midway : (m : Meaning) (ties : List Tie) (s t : Network) (i j : ℕ) → Took i j s t → Midway m ties s →
+took_midway : (m : Meaning) (ties : List Tie) (s t : Network) (i j : ℕ) → Took i j s t → Midway m ties s →
     Midway m ties t
 took_midway m ties s t i j p w = record {
   proper = w.proper;

@@ -4,6 +4,7 @@ pub mod Grown
 pub mod Shown
 pub mod Timely
 pub mod Kept
+pub mod Line
 pub mod Questions
 pub mod Pairs
 pub mod Fitted

@@ -1,5 +1,5 @@
 -- The network of a sheet as it stands in memory: which pairs of entries are linked, and the set on each ordered pair.
-use Rattle.std.specs.Prelude.{◌≡◌, ℕ, ◌<◌, Bool, true, false, ◌≢◌, ◌↔◌, List, [], slice_index, slice_index_or}
+use Rattle.std.specs.Prelude.{◌≡◌, ℕ, ◌<◌, Bool, true, false, ◌↔◌, List, [], slice_index, slice_index_or}
 use Rattle.algebra.specs.Masks.{has}
 use Rattle.algebra.specs.Meaning.{Meaning}
 use Rattle.network.specs.Ties.{Tie}
@@ -31,7 +31,6 @@ pub record Reflects (m : Meaning) (w : Network) (ties : List Tie) : Type 0 where
 abbrev pub tie_of : ℕ → ℕ → ℕ → Tie
 tie_of i j set = record { first = i; second = j; mask = set }
 
--- whether some linked pair has the empty set
-abbrev pub EmptiedIs : Network → Bool → Type 0
-EmptiedIs w true = (i j : ℕ) × (i < 48) × (j < 48) × (bit_at w.links i j ≡ true) × (cell w.sets i j ≡ 0)
-EmptiedIs w false = (i j : ℕ) → i < 48 → j < 48 → bit_at w.links i j ≡ true → cell w.sets i j ≢ 0
+-- some pair has the empty set
+abbrev pub Empties : Network → Type 0
+Empties w = (i j : ℕ) × (i < 48) × (j < 48) × (cell w.sets i j ≡ 0)

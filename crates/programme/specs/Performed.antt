@@ -15,8 +15,8 @@ use Rattle.programme.specs.declared.sheets.Sheet.{Sheet}
 -- what a call asks
 abbrev pub ask_of : Call → Ask
 ask_of (Entry name) = enter name.now
-ask_of (Tie first second mask) = tie first second mask
-ask_of (Try first second mask) = attempt first second mask
+ask_of (Tie t) = tie t.first t.second t.mask
+ask_of (Try t) = attempt t.first t.second t.mask
 
 -- A stage of a line: the sheet shows the ledger, and has on each link what the ties taken so far settle.
 pub record Stage (m : Meaning) (s : Sheet) (L : Ledger) : Type 0 where

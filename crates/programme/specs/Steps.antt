@@ -1,5 +1,5 @@
 -- The steps of settling a network: how each changes it, and what each keeps under the ties.
-use Rattle.std.specs.Prelude.{◌≡◌, ℕ, zero, suc, ◌+◌, ◌%◌, ◌^◌, ◌<◌, ◌≤◌, Bool, true, false, ◌||◌, ◌≢◌, ◌⊎◌, ◌↔◌, List, [], ◌∷◌, Some, None, Option, bit_and, slice_index}
+use Rattle.std.specs.Prelude.{◌≡◌, ℕ, zero, suc, ◌+◌, ◌%◌, ◌^◌, ◌<◌, ◌≤◌, Bool, true, false, ◌||◌, ◌≢◌, ◌⊎◌, ◌↔◌, List, Some, None, Option, bit_and, sum, sum_by, slice_index}
 use Rattle.algebra.specs.Masks.{has}
 use Rattle.algebra.specs.Meaning.{Meaning, composition_of}
 use Rattle.network.specs.Ties.{Tie, Proper}
@@ -18,17 +18,9 @@ pending_at w i j = bit_at w.pending i j || bit_at w.pending j i
 
 -- ---- what falls while a network closes
 
-abbrev pub sum : List ℕ → ℕ
-sum [] = 0
-sum (x ∷ xs) = x + sum xs
-
-abbrev pub sums : List (List ℕ) → ℕ
-sums [] = 0
-sums (r ∷ rs) = sum r + sums rs
-
 -- all sets, as numbers, added up
 unfoldable pub weight : Network → ℕ
-weight w = sums w.sets
+weight w = sum_by sum w.sets
 
 -- the first n rows, each a number of 64 bits, added up
 unfoldable pub tally : ℕ → List ℕ → ℕ

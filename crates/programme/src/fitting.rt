@@ -4,16 +4,16 @@ ghost use Rattle.algebra.specs.Things.{In as Between};
 ghost use Rattle.programme.specs.Fitted.{misfit_number, group_at, Fitting};
 
 use crate::programmes::Programme;
-use algebra::{ReadingSet, Timed};
+use algebra::{Members, ReadingSet, Timed};
 
 /// Why numbers cannot be held against the ties. Each misfit has a number; where both apply, the one with the smaller is
 /// answered.
 #[derive(Clone, Copy, PartialEq, Eq, Debug)]
 pub enum Misfit {
     /// There is not just one group of numbers for each entry.
-    Miscounted,
+    Miscounted = 11,
     /// The group of some entry is no thing.
-    NoThing,
+    NoThing = 12,
 }
 
 impl Misfit {
@@ -21,10 +21,7 @@ impl Misfit {
     pub fn number(self) -> u8
         ensures { result ≡ misfit_number self }
     {
-        match self {
-            Misfit::Miscounted => 11,
-            Misfit::NoThing => 12,
-        }
+        self as u8
     }
 }
 
@@ -38,13 +35,14 @@ impl<B: Timed> Programme<B> {
     {
         let size = self.algebra.numbers();
         let count = self.sheet.count;
-        if !counted(numbers.len(), size, count) {
+        if count.checked_mul(size) != Some(numbers.len()) {
             return Err(Misfit::Miscounted);
         }
-        if !all_things(&self.algebra, numbers, size, count) {
+        if !all_things(&self.algebra, numbers, size) {
             return Err(Misfit::NoThing);
         }
         let mut first = None;
+        // By number, under the label that a pair is found by: chunks with `enumerate` and `skip` are no shorter here.
         'rows: for i in 0..count {
             for j in i + 1..count {
                 let from = group(numbers, size, i);
@@ -59,37 +57,25 @@ impl<B: Timed> Programme<B> {
     }
 }
 
-/// Whether so many numbers make so many groups of this size.
-fn counted(numbers: usize, size: usize, groups: usize) -> bool
-    requires { 0 < size }
-    ensures { Decides result (numbers ≡ groups * size) }
-{
-    numbers % size == 0 && numbers / size == groups
-}
-
 /// The group of entry i.
 fn group(numbers: &[i32], size: usize, i: usize) -> &[i32]
     requires { i * size + size ≤ length numbers.now }
     ensures { result.now ≡ group_at size numbers.now i }
 {
-    let start = i * size;
-    &numbers[start..start + size]
+    &numbers[i * size..][..size]
 }
 
-/// Whether each group is a thing.
-fn all_things<B: Timed>(algebra: &B, numbers: &[i32], size: usize, count: usize) -> bool
-    requires { length numbers.now ≡ count * size }
-    ensures all { result ≡ true →
-        (i : ℕ) → i < count → B.Timed.thing algebra.now (group_at size numbers.now i) }
-    ensures other { result ≡ false → ((i : ℕ) × (i < count) ×
+/// Whether each whole group is a thing.
+fn all_things<B: Timed>(algebra: &B, numbers: &[i32], size: usize) -> bool
+    requires { 0 < size }
+    ensures all { result ≡ true → (i : ℕ) → i * size + size ≤ length numbers.now →
+        B.Timed.thing algebra.now (group_at size numbers.now i) }
+    ensures other { result ≡ false → ((i : ℕ) × (i * size + size ≤ length numbers.now) ×
         ¬ (B.Timed).thing algebra.now (group_at size numbers.now i)) }
 {
-    for i in 0..count {
-        if !algebra.is_thing(group(numbers, size, i)) {
-            return false;
-        }
-    }
-    true
+    numbers
+        .chunks_exact(size)
+        .all(|group| algebra.is_thing(group))
 }
 
 /// Whether the reading that stands from one thing to another is in what is given for the pair, if anything is.
@@ -99,11 +85,8 @@ fn met<B: Timed>(algebra: &B, given: ReadingSet, from: &[i32], to: &[i32]) -> bo
     ensures { Decides result ((given ≡ 0) ⊎
         Between (B.Timed.stand algebra.now) given from.now to.now) }
 {
-    if given == 0 {
-        return true;
-    }
-    match algebra.reading(from, to) {
-        Some(reading) => (given >> reading) & 1 == 1,
-        None => false,
-    }
+    given == 0
+        || algebra
+            .reading(from, to)
+            .is_some_and(|reading| Members::from(given).contains(reading as usize))
 }

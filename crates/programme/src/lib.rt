@@ -11,10 +11,12 @@ mod programmes;
 mod refusals;
 mod sheets;
 pub mod theorems;
+mod ties;
 
 pub use fitting::Misfit;
-pub use lines::{Call, run};
+pub use lines::{Call, Turn, perform_each, run};
 pub use linkage::ENTRIES;
 pub use naming::NAME_BYTES;
 pub use programmes::Programme;
 pub use refusals::Refusal;
+pub use ties::Tie;

@@ -1,11 +1,11 @@
 // The network of a sheet: which pairs of entries are linked, and the set of readings on each.
-ghost use Rattle.std.specs.Prelude.{◌≡◌, ℕ, ◌<◌, true, []};
+ghost use Rattle.std.specs.Prelude.{◌≡◌, ℕ, ◌<◌, true, [], Decides};
 ghost use Rattle.algebra.specs.Masks.{has};
 ghost use Rattle.algebra.specs.Meaning.{Meaning};
-ghost use Rattle.programme.specs.Networks.{bit_at, cell, Reflects, EmptiedIs};
+ghost use Rattle.programme.specs.Networks.{bit_at, cell, Reflects, Empties};
 ghost use Rattle.programme.specs.Steps.{Pended, Grown, Same, Each, Below, Implied, FullFrom, Trimmed, Taken};
 
-use algebra::ReadingSet;
+use algebra::{Members, ReadingSet};
 
 /// Room for this many entries.
 pub const ENTRIES: usize = 48;
@@ -14,6 +14,8 @@ pub const ENTRIES: usize = 48;
 const ALL: u64 = (1 << ENTRIES) - 1;
 
 /// Rows of bits and of sets, by the numbers of entries. A link and its set stand in both directions.
+// Three arrays and not one of rows: `rows[i].links` is no plainer than `links[i]`, and `take` and `emptied` scan one array each.
+// An entry's number below 48 is a plain `usize` with a `requires`: a type for it would be unwrapped at every index.
 #[derive(Clone, Copy)]
 pub struct Network {
     /// Bit j of row i: i and j are linked.
@@ -41,7 +43,7 @@ impl Network {
         requires { (i < 48) × (j < 48) }
         ensures { result ≡ bit_at self.now.links i j }
     {
-        (self.links[i] >> j) & 1 == 1
+        Members(self.links[i]).contains(j)
     }
 
     /// What may stand from i to j, as far as it has been narrowed.
@@ -52,21 +54,11 @@ impl Network {
         self.sets[i][j]
     }
 
-    /// Whether some linked pair has the empty set.
+    /// Whether some pair has the empty set. It is a linked one then, since the others have the universe.
     pub(crate) fn emptied(&self) -> bool
-        ensures { EmptiedIs self.now result }
+        ensures { Decides result (Empties self.now) }
     {
-        for i in 0..ENTRIES {
-            let mut rest = self.neighbours(i);
-            while rest != 0 {
-                let j = rest.trailing_zeros() as usize;
-                if self.sets[i][j] == 0 {
-                    return true;
-                }
-                rest &= rest - 1;
-            }
-        }
-        false
+        self.sets.iter().any(|row| row.contains(&0))
     }
 
     /// The entries that i is linked with, as bits.
@@ -96,10 +88,7 @@ impl Network {
         ensures grown { Grown (Each i others) self.old self.new }
         ensures all { (j : ℕ) → has others j ≡ true → bit_at self.new.links i j ≡ true }
     {
-        let mut rest = others;
-        while rest != 0 {
-            let j = rest.trailing_zeros() as usize;
-            rest &= rest - 1;
+        for j in Members(others) {
             self.link(i, j);
         }
     }
@@ -110,11 +99,9 @@ impl Network {
         ensures grown { Grown (Below self.old k) self.old self.new }
         ensures all { (a b : ℕ) → Below self.old k a b → bit_at self.new.links a b ≡ true }
     {
-        let mut rest = self.links[k] & ((1 << k) - 1);
-        while rest != 0 {
-            let i = rest.trailing_zeros() as usize;
-            rest &= rest - 1;
-            self.link_each(i, rest & !self.links[i]);
+        let mut lower = Members(self.links[k] & ((1 << k) - 1));
+        while let Some(i) = lower.next() {
+            self.link_each(i, lower.0 & !self.links[i]);
         }
     }
 
@@ -154,11 +141,13 @@ impl Network {
     pub(crate) fn take(&mut self) -> Option<(usize, usize)>
         ensures { Taken self.old self.new result }
     {
+        // By number, since the number of the row is answered.
         for i in 0..ENTRIES {
-            let row = self.pending[i];
-            let j = row.trailing_zeros() as usize;
-            if j < ENTRIES {
-                self.pending[i] = row & (row - 1);
+            let mut row = Members(self.pending[i]);
+            if let Some(j) = row.next()
+                && j < ENTRIES
+            {
+                self.pending[i] = row.0;
                 return Some((i, j));
             }
         }

@@ -1,38 +1,17 @@
 // Names of entries: what may be a name, and how a sheet holds it.
-ghost use Rattle.std.specs.Prelude.{◌≡◌, ℕ, ◌<◌, ◌≤◌, true, false, length, take, Decides, slice_index};
-ghost use Rattle.programme.specs.Spelled.{name_of, equal_names};
+ghost use Rattle.std.specs.Prelude.{◌≡◌, ℕ, ◌<◌, ◌≤◌, true, false, length, take, slice_index};
+ghost use Rattle.programme.specs.Spelled.{name_of};
 ghost use Rattle.programme.specs.Ledgers.{Unseen};
-ghost use Rattle.std.specs.Cmp.Rules.{comparing};
-ghost use Rattle.std.proofs.Common.{rules};
 
 /// A name has at most this many bytes.
 pub const NAME_BYTES: usize = 12;
 
-/// The lowest byte of a name: the first one after the space.
-const FIRST_SEEN: u8 = 0x21;
-
-/// The highest byte of a name.
-const LAST_SEEN: u8 = 0x7E;
-
 /// The bytes of a name, with zeroes up to the full length, and how many there are.
-#[derive(Clone, Copy)]
+// An array and a length: there is no heap here, `ArrayVec` is not `Copy`, as a sheet has to be, and `ArrayString` wants text.
+#[derive(Clone, Copy, PartialEq, Eq)]
 pub(crate) struct Name {
     bytes: [u8; NAME_BYTES],
     len: usize,
-}
-
-/// Names are equal if their bytes and lengths are. This is written out, to promise more than a derived equality: that it decides.
-impl PartialEq for Name {
-    ghost eq = { equal_names };
-
-    ghost laws = { Prim.search (comparing, rules) };
-
-    fn eq(&self, other: &Name) -> bool
-        ensures value { result ≡ equal_names self.now other.now }
-        ensures decides { Decides result (self.now ≡ other.now) }
-    {
-        self.bytes == other.bytes && self.len == other.len
-    }
 }
 
 impl Name {
@@ -42,9 +21,7 @@ impl Name {
         ensures { result ≡ name_of text.now }
     {
         let mut bytes = [0; NAME_BYTES];
-        for k in 0..text.len() {
-            bytes[k] = text[k];
-        }
+        bytes[..text.len()].copy_from_slice(text);
         Name {
             bytes,
             len: text.len(),
@@ -77,10 +54,5 @@ pub(crate) fn printable(text: &[u8]) -> bool
     ensures unseen { result ≡ false →
         ((k : ℕ) × (k < length text.now) × Unseen (slice_index text.now k)) }
 {
-    for &byte in text {
-        if byte < FIRST_SEEN || byte > LAST_SEEN {
-            return false;
-        }
-    }
-    true
+    text.iter().all(u8::is_ascii_graphic)
 }

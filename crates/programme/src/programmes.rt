@@ -11,20 +11,19 @@ use crate::linkage::ENTRIES;
 use crate::naming::{NAME_BYTES, Name, printable};
 use crate::refusals::Refusal;
 use crate::sheets::Sheet;
-use algebra::{Algebra, ReadingSet, Stamp};
-
-/// Reading 0 alone: what stands from an entry to itself.
-const IDENTITY: ReadingSet = 1;
+use crate::ties::Tie;
+use algebra::{Algebra, IDENTITY, ReadingSet, Stamp};
 
 /// Entries with names, and ties between them that say which readings may stand from one to another.
 #[derive(Drop)]
 pub struct Programme<B> {
     pub(crate) algebra: B,
     pub(crate) sheet: Sheet,
-    ghost small: { sheet.count ≤ 48 },
     ghost short: { Short sheet.names },
 }
 
+// Each promise is for every ledger that the sheet shows, and says that the algebra stays. With one ledger as a ghost field the calls
+// would promise less, and an `impl Model` whose value is the sheet would forget the algebra.
 impl<B: Algebra> Programme<B> {
     /// A programme with no entries.
     pub fn open(algebra: B) -> Programme<B>
@@ -44,7 +43,7 @@ impl<B: Algebra> Programme<B> {
         ensures kept { Keeps (B.Algebra.meaning self.old.algebra) self.old.sheet
             (enter name.now) result self.new.sheet }
     {
-        if name.len() == 0 || name.len() > NAME_BYTES {
+        if name.is_empty() || name.len() > NAME_BYTES {
             return Err(Refusal::Misnamed);
         }
         if !printable(name) {
@@ -62,44 +61,36 @@ impl<B: Algebra> Programme<B> {
         Ok(number)
     }
 
-    /// Ties two entries: the reading from the first to the second is one of the mask's. Refused where the ties then clash.
-    pub fn tie(&mut self, first: usize, second: usize, mask: ReadingSet) -> Result<usize, Refusal>
+    /// Ties two entries. Refused where the ties then clash.
+    pub fn tie(&mut self, asked: Tie) -> Result<usize, Refusal>
         ensures lent { self.new.algebra ≡ self.old.algebra }
         ensures kept { Keeps (B.Algebra.meaning self.old.algebra) self.old.sheet
-            (tie first second mask) result self.new.sheet }
+            (tie asked.first asked.second asked.mask) result self.new.sheet }
     {
-        allowed(&self.sheet, &self.algebra, first, second, mask)?;
-        let old = self.sheet;
+        allowed(&self.sheet, &self.algebra, asked)?;
         let mut attempt = Attempt {
+            old: Some(self.sheet),
             sheet: &mut self.sheet,
-            old,
-            kept: false,
         };
-        let reply = write_tie(attempt.sheet, &self.algebra, first, second, mask)?;
-        attempt.kept = true;
+        let reply = write_tie(attempt.sheet, &self.algebra, asked)?;
+        attempt.old = None;
         Ok(reply)
     }
 
     /// Answers as `tie` would, and leaves the sheet as it is.
-    pub fn try_tie(
-        &mut self,
-        first: usize,
-        second: usize,
-        mask: ReadingSet,
-    ) -> Result<usize, Refusal>
+    // No one function with `tie`, which would take a flag and be as long.
+    pub fn try_tie(&mut self, asked: Tie) -> Result<usize, Refusal>
         ensures lent { self.new.algebra ≡ self.old.algebra }
         ensures back { self.new.sheet ≡ self.old.sheet }
         ensures kept { Keeps (B.Algebra.meaning self.old.algebra) self.old.sheet
-            (attempt first second mask) result self.new.sheet }
+            (attempt asked.first asked.second asked.mask) result self.new.sheet }
     {
-        allowed(&self.sheet, &self.algebra, first, second, mask)?;
-        let old = self.sheet;
+        allowed(&self.sheet, &self.algebra, asked)?;
         let attempt = Attempt {
+            old: Some(self.sheet),
             sheet: &mut self.sheet,
-            old,
-            kept: false,
         };
-        write_tie(attempt.sheet, &self.algebra, first, second, mask)
+        write_tie(attempt.sheet, &self.algebra, asked)
     }
 
     /// What may stand from the first entry to the second as the ties settle it; nothing is said if they are not linked.
@@ -168,6 +159,7 @@ impl<B: Algebra> Programme<B> {
 
 impl<B: Algebra + Copy> Programme<B> {
     /// A programme with the same entries and ties, for work that may have to be given up.
+    // No `Clone`, whose `clone` may run out of memory, which `load` could not answer; no `Copy`, since a sheet is large.
     pub fn duplicate(&self) -> Programme<B>
         ensures lent { result.algebra ≡ self.now.algebra }
         ensures same { result.sheet ≡ self.now.sheet }

@@ -6,25 +6,25 @@ ghost use Rattle.programme.specs.Ledgers.{number};
 #[derive(Clone, Copy, PartialEq, Eq, Debug)]
 pub enum Refusal {
     /// The name has no bytes, or more than twelve.
-    Misnamed,
+    Misnamed = 1,
     /// A byte of the name cannot be seen in print.
-    Unprintable,
+    Unprintable = 2,
     /// An entry has this name already.
-    Known,
+    Known = 3,
     /// The sheet has no room for another entry.
-    Full,
+    Full = 4,
     /// There is no entry with that number.
-    Absent,
+    Absent = 5,
     /// Both numbers are the same.
-    Same,
+    Same = 6,
     /// The mask has no reading.
-    Empty,
+    Empty = 7,
     /// The mask has a bit outside the universe.
-    Outside,
+    Outside = 8,
     /// The mask is the whole universe, so the tie would say nothing.
-    Everything,
+    Everything = 9,
     /// With this tie, some link has no reading left.
-    Clash,
+    Clash = 10,
 }
 
 impl Refusal {
@@ -32,17 +32,6 @@ impl Refusal {
     pub fn number(self) -> u8
         ensures { result ≡ number self }
     {
-        match self {
-            Refusal::Misnamed => 1,
-            Refusal::Unprintable => 2,
-            Refusal::Known => 3,
-            Refusal::Full => 4,
-            Refusal::Absent => 5,
-            Refusal::Same => 6,
-            Refusal::Empty => 7,
-            Refusal::Outside => 8,
-            Refusal::Everything => 9,
-            Refusal::Clash => 10,
-        }
+        self as u8
     }
 }

@@ -9,10 +9,10 @@ use laws::count_lawful;
 use published::Tally;
 use std::io;
 
-const HOUSE_RULES: u32 = 200;
+const HOUSE_RULES: usize = 200;
 
 fn main(rt: HostRuntime) -> io::Result<()> {
-    let mut tally = Tally::new();
+    let mut tally = Tally::default();
     for line in rt.lines(rt.alloc()) {
         let line = line?;
         if !tally.note(line.as_str()) {

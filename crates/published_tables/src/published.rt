@@ -2,20 +2,13 @@
 use algebra::{Algebra, ReadingSet, Standard, set_of};
 
 /// How many lines agree with the engine.
-#[derive(Clone, Copy)]
+#[derive(Clone, Copy, Default)]
 pub struct Tally {
     pub agreeing: u32,
     pub differing: u32,
 }
 
 impl Tally {
-    pub(crate) fn new() -> Self {
-        Tally {
-            agreeing: 0,
-            differing: 0,
-        }
-    }
-
     // Counts a line; false where it differs. A line that begins with `#` is a comment.
     pub(crate) fn note(&mut self, line: &str) -> bool {
         if line.starts_with('#') {
@@ -31,20 +24,11 @@ impl Tally {
     }
 }
 
-fn named(name: &str) -> Option<Standard> {
-    match name {
-        "instants" => Some(Standard::Instants),
-        "spans" => Some(Standard::Spans),
-        "regions" => Some(Standard::Regions),
-        _ => None,
-    }
-}
-
 // Whether the engine answers as the line says; none where the line is no line of a table.
 fn agrees(line: &str) -> Option<bool> {
     let (question, answer) = line.split_once(": ")?;
     let mut words = question.split(' ');
-    let algebra = named(words.next()?)?;
+    let algebra = words.next()?.parse::<Standard>().ok()?;
     let code = algebra.stamp().code;
     let first = set_of(code, words.next()?.as_bytes())?;
     let expected: ReadingSet = set_of(code, answer.as_bytes())?;

@@ -1,4 +1,5 @@
 -- The lemmas of this crate: of loading, then of writing, then of both.
+pub mod Naming
 pub mod Determined
 pub mod Holding
 pub mod Steps

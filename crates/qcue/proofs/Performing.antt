@@ -1,10 +1,11 @@
 -- Lines: one turn more, from the start of a line to its end.
-use Rattle.std.proofs.Common.{◌≡◌, ℕ, ◌+◌, ◌<◌, ◌≤◌, List, [], ◌∷◌, ◌++◌, map, length, get_or, take, set, Ok, Err, Result, sym, refl, ap, ◌∙◌, Bor}
-use Rattle.std.proofs.lemmas.List.{map_more, take_more_set, take_all}
+use Rattle.std.proofs.Common.{◌≡◌, ℕ, List, [], ◌∷◌, map, Ok, Err, Result, sym, refl, ap, ◌∙◌, Bor}
 use Rattle.algebra.specs.Meaning.{Meaning, Lawful}
 use Rattle.programme.specs.Ledgers.{Ledger, blank, after}
 use Rattle.programme.specs.Grown.{Orderly}
 use Rattle.programme.specs.Shown.{Shows}
+use Rattle.programme.specs.Line.{Line}
+use Rattle.programme.specs.Line as line
 use Rattle.programme.specs.declared.sheets.Sheet.{Sheet}
 use Rattle.programme.proofs.Growing.{blank_orderly, after_orderly}
 use Rattle.programme.proofs.Looking.{settled_set}
@@ -32,12 +33,6 @@ loaded m s t given bytes r is k = rw is (record {
 
 -- ---- the whole line
 
--- the end of a line is a stage
-last : {m : Meaning} {s t : Sheet} {L K : Ledger} {turns : List Turn} {answers : List Answer} →
-    Performed m s L turns answers t K → Stage m t K
-last (ended x) = x
-last (next x k r p) = last p
-
 -- every turn leaves an orderly ledger
 reply_orderly : (m : Meaning) (L K : Ledger) (turn : Turn) (r : Answer) → Orderly m L → Replied m L turn r K → Orderly m K
 reply_orderly m L K (call ask) (answer.Call r) o (x, e) = rw e (after_orderly m L ask r o x.0)
@@ -49,33 +44,21 @@ reply_orderly m L K (load bytes) (answer.Load (Err fault)) o (J, x, e) = rw e o
 stage : {m : Meaning} {s : Sheet} {L : Ledger} → Lawful m → Shows m s L → Orderly m L → Stage m s L
 stage l w o = record { shown = w; orderly = o; settled = λ i j x. settled_set _ _ _ w i j l x }
 
-then : {m : Meaning} {s t u : Sheet} {L K J : Ledger} {turns : List Turn} {answers : List Answer} (turn : Turn) (r : Answer) →
-    Performed m s L turns answers t K → TurnKeeps m t turn r u → Replied m K turn r J → Stage m u J →
-    Performed m s L (turns ++ (turn ∷ [])) (answers ++ (r ∷ [])) u J
-then turn r (ended x) k a y = next x k a (ended y)
-then turn r (next x j b p) k a y = next x j b (then turn r p k a y)
+performed : {m : Meaning} {s u : Sheet} {L : Ledger} {requests : List Request} {answers : List Answer} → Lawful m →
+    Shows m s L → Orderly m L → Line (λ s request r t. TurnKeeps m s (turn_of request) r t) s requests answers u →
+    (K : Ledger) × Performed m s L (map turn_of requests) answers u K
+performed l w o line.ended = (_, ended (stage l w o))
+performed {m} {L} l w o (line.next k p) =
+    let (J, replied, shown) = k.replied L w in
+    let (K, q) = performed l shown (reply_orderly m L J _ _ o replied) p in
+    (K, next (stage l w o) k replied q)
 
 -- n is the meaning of the algebra that the programme holds
-
-pub line_none : (m n : Meaning) (s : Sheet) → n ≡ m → Lawful m → Shows m s blank → FromBlank n [] [] s
-line_none m n s same l w = (s, blank, ended (rw same (stage l w (blank_orderly m))))
-
-pub line_more : (m n : Meaning) (t u : Sheet) (requests : List Request) (answers : List Answer) (k : ℕ) (request : Request)
-    (r : Answer) → n ≡ m → Lawful m → k < length requests → k < length answers → request ≡ get_or requests k request →
-    FromBlank m (map turn_of (take k requests)) (take k answers) t → TurnKeeps n t (turn_of request) r u →
-    FromBlank m (map turn_of (take (k + 1) requests)) (take (k + 1) (set answers k r)) u
-line_more m n t u requests answers k request r same l h j e (s, K, p) keeps =
-    let before = last p in
-    let (J, replied, shown) = (rw same at keeps).replied K before.shown in
-    let orderly = reply_orderly m K J (turn_of request) r before.orderly replied in
-    let asked = map_more turn_of requests k request h ∙ ap (λ (c : Request). map turn_of (take k requests) ++ (turn_of c ∷ [])) (sym e) in
-    let told = take_more_set answers k r j in
-    (s, J, rw (asked, told) (then (turn_of request) r p (rw same at keeps) replied (stage l shown orderly)))
-
-pub line_all : (m n : Meaning) (t : Sheet) (requests : List Request) (answers : List Answer) (k : ℕ) → n ≡ m →
-    length requests ≤ k → length answers ≤ k → FromBlank n (map turn_of (take k requests)) (take k answers) t →
-    FromBlank m (map turn_of requests) answers t
-line_all m n t requests answers k same h j p = rw (same, take_all k requests h, take_all k answers j) at p
+pub from_blank : (m n : Meaning) (s u : Sheet) (requests : List Request) (answers : List Answer) → n ≡ m → Lawful m →
+    Shows m s blank → Line (λ s request r t. TurnKeeps n s (turn_of request) r t) s requests answers u →
+    FromBlank m (map turn_of requests) answers u
+from_blank m n s u requests answers same l w p =
+    let (K, q) = performed l w (blank_orderly m) (rw same at p) in (s, K, q)
 
 -- ---- one answer to each turn, and so to the line
 

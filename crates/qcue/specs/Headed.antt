@@ -1,6 +1,10 @@
--- What head answers: the stamp of a file, so that its algebra can be opened.
-use Rattle.std.specs.Prelude.{◌≡◌, ℕ, ◌≤◌, List, Ok, Err, Result}
+-- What the head of a file says: its stamp, and the algebra that it names.
+use Rattle.std.specs.Prelude.{◌≡◌, ℕ, ◌≤◌, List, Some, Ok, Err, Result}
+use Rattle.algebra.specs.House.{housed}
+use Rattle.algebra.specs.Meaning.{Meaning}
+use Rattle.algebra.specs.Standard.{meaning_of, standard_of}
 use Rattle.algebra.specs.declared.interface.Stamp.{Stamp}
+use Rattle.algebra.specs.declared.standards.Standard.{Standard}
 use Rattle.qcue.specs.Records.{payload_of, stamp_in}
 use Rattle.qcue.specs.Loaded.{Kept, Broken}
 use Rattle.qcue.specs.declared.loading.Expected.TheVariants.{Head}
@@ -22,3 +26,11 @@ abbrev pub Headed : List ℕ → Result Stamp Fault → Type 0
 Headed bytes (Ok stamp) = HeadRead bytes (Ok stamp)
 Headed bytes (Err fault) =
     (refusal : FileRefusal) × HeadRead bytes (Err refusal) × (fault ≡ record { reason = File refusal; offset = 0 })
+
+-- m is the meaning of the algebra that the head names: the standard one with its code, cut by its house mask
+pub record Opened (bytes : List ℕ) (m : Meaning) : Type 0 where
+  pub stamp : Stamp
+  pub below : Standard
+  pub read : Headed bytes (Ok stamp)
+  pub named : standard_of stamp.code ≡ Some below
+  pub cut : m ≡ housed (meaning_of below) stamp.house

@@ -1,5 +1,5 @@
 -- What the inner functions read: the record at the front, the payloads, and one step of the loader.
-use Rattle.std.specs.Prelude.{◌≡◌, ℕ, ◌+◌, cond, ◌≢◌, List, length, take, Some, None, Option, ◌==◌, slice_index}
+use Rattle.std.specs.Prelude.{◌≡◌, ℕ, ◌+◌, cond, ◌≢◌, List, length, take, Some, None, Option, Result, MatchResult, ◌==◌, slice_index}
 use Rattle.std.specs.Borrow.{Bor}
 use Rattle.algebra.specs.declared.interface.Stamp.{Stamp}
 use Rattle.programme.specs.Ledgers.{Ask}
@@ -9,6 +9,8 @@ use Rattle.qcue.specs.Records.{length_of, kind_of, payload_of, Whole, mark}
 use Rattle.qcue.specs.Loaded.{KnownKind, Kept, Broken, ask_in, following}
 use Rattle.qcue.specs.declared.loading.Expected.TheVariants as expected
 use Rattle.qcue.specs.declared.loading.Loader.{Loader}
+use Rattle.qcue.specs.declared.records.Kind.{Kind}
+use Rattle.qcue.specs.declared.records.Kind.TheVariants as kind
 use Rattle.qcue.specs.declared.records.Record.{Record}
 use Rattle.qcue.specs.declared.records.Record.TheVariants.{Head, Entry, Tie, End}
 use Rattle.qcue.specs.declared.refusals.FileRefusal.{FileRefusal}
@@ -17,9 +19,19 @@ use Rattle.qcue.specs.declared.refusals.FileRefusal.TheVariants.{UnknownKind, Mi
 
 -- ---- the record at the front
 
-pub record Frame (bytes : List ℕ) (found : ℕ × Bor (List ℕ)) : Type 0 where
+abbrev pub kind_number : Kind → ℕ
+kind_number kind.Head = 1
+kind_number kind.Entry = 2
+kind_number kind.Tie = 3
+kind_number kind.End = 4
+
+-- the kind with this number, if there is one
+abbrev pub KindRead : ℕ → Result Kind FileRefusal → Type 0
+KindRead n r = MatchResult r (λ kind. kind_number kind ≡ n) (λ refusal. (refusal ≡ UnknownKind) × ¬ KnownKind n)
+
+pub record Frame (bytes : List ℕ) (found : Kind × Bor (List ℕ)) : Type 0 where
   pub whole : Whole bytes
-  pub kind : found.0 ≡ kind_of bytes
+  pub kind : kind_number found.0 ≡ kind_of bytes
   pub payload : found.1.now ≡ payload_of bytes
   pub long : 4 + length found.1.now ≡ length_of bytes
 

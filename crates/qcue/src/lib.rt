@@ -9,7 +9,7 @@ mod refusals;
 pub mod theorems;
 mod writing;
 
-pub use heads::head;
+pub use heads::{algebra_of, head};
 pub use lines::{Answer, Request, perform, run};
 pub use loading::{Expected, load};
 pub use refusals::{Fault, FileRefusal, Reason};

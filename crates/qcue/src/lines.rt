@@ -5,7 +5,7 @@ ghost use Rattle.qcue.specs.Performed.{turn_of, TurnKeeps, FromBlank};
 use crate::loading::load;
 use crate::refusals::Fault;
 use algebra::Algebra;
-use programme::{Call, Programme, Refusal};
+use programme::{Call, Programme, Refusal, Turn, perform_each};
 
 /// What a line asks for in one turn.
 #[derive(Clone, Copy)]
@@ -27,13 +27,25 @@ pub fn perform<B: Algebra + Copy>(programme: &mut Programme<B>, request: Request
     ensures kept { TurnKeeps (B.Algebra.meaning programme.old.algebra) programme.old.sheet
         (turn_of request.entry) result programme.new.sheet }
 {
+    // Requests are values, which a line keeps, so a match tells them apart.
     match request {
         Request::Call(call) => Answer::Call(programme.perform(call)),
         Request::Load(bytes) => Answer::Load(load(programme, bytes)),
     }
 }
 
+impl<'a, B: Algebra + Copy> Turn<B> for Request<'a> {
+    type Answer = Answer;
+
+    ghost keeps = { λ m s request r t. TurnKeeps m s (turn_of request) r t };
+
+    fn perform(self, programme: &mut Programme<B>) -> Answer {
+        perform(programme, self)
+    }
+}
+
 /// Opens a programme, performs the requests in order and records each answer at its place. There must be one place for each.
+// As `programme::run`, over other requests and answers: what a line of them keeps to is a relation of its own.
 pub fn run<B: Algebra + Copy>(
     algebra: B,
     requests: &[Request<'_>],
@@ -52,12 +64,6 @@ pub fn run<B: Algebra + Copy>(
       | Some p ↦ FromBlank (B.Algebra.meaning algebra) (map turn_of requests.now) answers.new p.sheet
     ] }
 {
-    if requests.len() != answers.len() {
-        return None;
-    }
     let mut programme = Programme::open(algebra);
-    for k in 0..requests.len() {
-        answers[k] = perform(&mut programme, requests[k]);
-    }
-    Some(programme)
+    perform_each(&mut programme, requests, answers).then_some(programme)
 }

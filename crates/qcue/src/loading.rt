@@ -27,6 +27,7 @@ pub(crate) struct Loader {
     ties: usize,
 }
 
+// That the algebra stays is said of each step, as of the programme's own calls.
 impl Loader {
     /// Moves past the record at the front, and answers what it asks of the programme, and its length.
     fn advance<'a>(
@@ -82,13 +83,10 @@ impl Loader {
             self.old bytes.now programme.new.sheet self.new result }
     {
         let (asked, length) = self.advance(programme.stamp(), programme.entries(), bytes)?;
-        match asked {
-            Some(call) => {
-                programme.perform(call)?;
-                Ok(length)
-            }
-            None => Ok(length),
+        if let Some(call) = asked {
+            programme.perform(call)?;
         }
+        Ok(length)
     }
 }
 
@@ -102,22 +100,16 @@ fn take_all<B: Algebra + Copy>(programme: &mut Programme<B>, bytes: &[u8]) -> Re
         expected: Expected::Head,
         ties: 0,
     };
-    let mut rest = bytes;
+    // A record tells its own length, so the offset is counted.
     let mut offset = 0;
     while loader.expected != Expected::Nothing {
-        match loader.take(programme, rest) {
-            Ok(length) => {
-                rest = &rest[length..];
-                offset += length;
-            }
-            Err(reason) => return Err(Fault { reason, offset }),
-        }
+        let length = loader
+            .take(programme, &bytes[offset..])
+            .map_err(|reason| Fault { reason, offset })?;
+        offset += length;
     }
-    if !rest.is_empty() {
-        return Err(Fault {
-            reason: Reason::File(FileRefusal::Trailing),
-            offset,
-        });
+    if offset < bytes.len() {
+        return Err(FileRefusal::Trailing.at(offset));
     }
     Ok(0)
 }
@@ -129,10 +121,7 @@ pub fn load<B: Algebra + Copy>(programme: &mut Programme<B>, bytes: &[u8]) -> Re
         bytes.now result programme.new.sheet }
 {
     if programme.entries() != 0 {
-        return Err(Fault {
-            reason: Reason::File(FileRefusal::Occupied),
-            offset: 0,
-        });
+        return Err(FileRefusal::Occupied.at(0));
     }
     let mut copy = programme.duplicate();
     let answer = take_all(&mut copy, bytes)?;

@@ -4,11 +4,11 @@ ghost use Rattle.programme.specs.Ledgers.{tie};
 ghost use Rattle.programme.specs.Performed.{ask_of};
 ghost use Rattle.qcue.specs.Records.{u32_at};
 ghost use Rattle.qcue.specs.Loaded.{Marked, Counts};
-ghost use Rattle.qcue.specs.Read.{Frame, Front, NoFront, NoStamp};
+ghost use Rattle.qcue.specs.Read.{KindRead, Frame, Front, NoFront, NoStamp};
 
 use crate::refusals::FileRefusal;
 use algebra::Stamp;
-use programme::Call;
+use programme::{Call, Tie};
 
 /// The four bytes that the first payload of every file begins with.
 pub const MARK: [u8; 4] = *b"QCUE";
@@ -16,14 +16,30 @@ pub const MARK: [u8; 4] = *b"QCUE";
 /// The version of the layout.
 pub const VERSION: u8 = 1;
 
-/// The kinds of records.
-pub(crate) const HEAD: u16 = 1;
+/// The kinds of records, and the number that stands for each.
+#[derive(Clone, Copy)]
+pub(crate) enum Kind {
+    Head = 1,
+    Entry = 2,
+    Tie = 3,
+    End = 4,
+}
 
-pub(crate) const ENTRY: u16 = 2;
+impl TryFrom<u16> for Kind {
+    type Error = FileRefusal;
 
-pub(crate) const TIE: u16 = 3;
+    ghost try_from_gives = { KindRead };
 
-pub(crate) const END: u16 = 4;
+    fn try_from(number: u16) -> Result<Kind, FileRefusal> {
+        match number {
+            1 => Ok(Kind::Head),
+            2 => Ok(Kind::Entry),
+            3 => Ok(Kind::Tie),
+            4 => Ok(Kind::End),
+            _ => Err(FileRefusal::UnknownKind),
+        }
+    }
+}
 
 /// A record begins with its length and its kind, two bytes each.
 pub(crate) const PREFIX: usize = 4;
@@ -38,7 +54,7 @@ pub(crate) enum Record<'a> {
 }
 
 /// The kind and the payload of the record at the front of the bytes.
-fn frame<'a>(bytes: &'a [u8]) -> Result<(u16, &'a [u8]), FileRefusal>
+fn frame<'a>(bytes: &'a [u8]) -> Result<(Kind, &'a [u8]), FileRefusal>
     ensures { MatchResult result (Frame bytes.now) (NoFront bytes.now) }
 {
     if bytes.is_empty() {
@@ -51,7 +67,8 @@ fn frame<'a>(bytes: &'a [u8]) -> Result<(u16, &'a [u8]), FileRefusal>
     if length < PREFIX || length - PREFIX > rest.len() {
         return Err(FileRefusal::Cut);
     }
-    Ok((u16::from_le_bytes([*k0, *k1]), &rest[0..length - PREFIX]))
+    let kind = Kind::try_from(u16::from_le_bytes([*k0, *k1]))?;
+    Ok((kind, &rest[..length - PREFIX]))
 }
 
 /// The record at the front of the bytes, and its length.
@@ -60,11 +77,10 @@ pub(crate) fn front<'a>(bytes: &'a [u8]) -> Result<(Record<'a>, usize), FileRefu
 {
     let (kind, payload) = frame(bytes)?;
     let record = match kind {
-        HEAD => Record::Head(payload),
-        ENTRY => Record::Entry(payload),
-        TIE => Record::Tie(payload),
-        END => Record::End(payload),
-        _ => return Err(FileRefusal::UnknownKind),
+        Kind::Head => Record::Head(payload),
+        Kind::Entry => Record::Entry(payload),
+        Kind::Tie => Record::Tie(payload),
+        Kind::End => Record::End(payload),
     };
     Ok((record, PREFIX + payload.len()))
 }
@@ -96,11 +112,11 @@ pub(crate) fn read_tie<'a>(payload: &'a [u8]) -> Result<Call<'a>, FileRefusal>
     let [first, second, m0, m1, m2, m3] = payload else {
         return Err(FileRefusal::WrongLength);
     };
-    Ok(Call::Tie {
+    Ok(Call::Tie(Tie {
         first: *first as usize,
         second: *second as usize,
         mask: u32::from_le_bytes([*m0, *m1, *m2, *m3]),
-    })
+    }))
 }
 
 /// How many entries and ties an end counts.

@@ -1,8 +1,10 @@
 // Why a file or a buffer is refused, and where.
 ghost use Rattle.std.specs.Prelude.{◌≡◌, Some};
 ghost use Rattle.qcue.specs.Refusals.{file_number, reason_number, layer_of, fault_text};
+ghost use Rattle.qcue.specs.declared.refusals.FileRefusal.TheVariants.{OtherStamp};
 ghost use Rattle.qcue.specs.declared.refusals.Reason.TheVariants.{File, Sheet};
 
+use algebra::UnknownCode;
 use programme::Refusal;
 use std::fmt;
 
@@ -46,6 +48,24 @@ impl FileRefusal {
             FileRefusal::OtherStamp => 19,
             FileRefusal::WrongCount => 20,
         }
+    }
+
+    /// The fault of the record at this offset.
+    pub(crate) fn at(self, offset: usize) -> Fault
+        ensures { result ≡ record { reason = File self; offset = offset } }
+    {
+        Fault {
+            reason: Reason::File(self),
+            offset,
+        }
+    }
+}
+
+impl From<UnknownCode> for FileRefusal {
+    ghost from_gives = { λ _ refusal. refusal ≡ OtherStamp };
+
+    fn from(_: UnknownCode) -> FileRefusal {
+        Self::OtherStamp
     }
 }
 

@@ -15,6 +15,18 @@ pub enum Answer {
     NotUnderstood(Expected),
 }
 
+impl From<Refusal> for Answer {
+    fn from(refusal: Refusal) -> Answer {
+        Answer::Refused(refusal)
+    }
+}
+
+impl From<Expected> for Answer {
+    fn from(expected: Expected) -> Answer {
+        Answer::NotUnderstood(expected)
+    }
+}
+
 impl fmt::Display for Answer {
     fn fmt<W: fmt::Write>(&self, f: &mut fmt::Formatter<W>) -> fmt::Result {
         match self {
@@ -23,9 +35,7 @@ impl fmt::Display for Answer {
             Answer::Letters(letters) if letters.is_empty() => write!(f, "none"),
             Answer::Letters(letters) => write!(f, "{letters}"),
             Answer::Refused(refusal) => {
-                let number = refusal.number();
-                let reason = reason(*refusal);
-                write!(f, "refused {number} ({reason})")
+                write!(f, "refused {} ({})", refusal.number(), reason(*refusal))
             }
             Answer::NotUnderstood(expected) => write!(f, "not understood (expected {expected})"),
         }

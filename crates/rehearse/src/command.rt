@@ -70,8 +70,7 @@ impl Expected {
 
 impl fmt::Display for Expected {
     fn fmt<W: fmt::Write>(&self, f: &mut fmt::Formatter<W>) -> fmt::Result {
-        let text = self.text();
-        write!(f, "{text}")
+        f.write_str(self.text())
     }
 }
 
@@ -89,6 +88,7 @@ impl<'a> Command<'a> {
         let command = match (verb, rest) {
             ("open", _) => Command::Open(read_algebra(text)?),
             ("entry", _) => Command::Do(Order::Entry(read_name(line))),
+            // One arm for a verb, also for `try`, which reads as `tie` does.
             ("tie", (Some(first), Some(set), Some(second), None)) => Command::Do(Order::Tie(Bond {
                 first,
                 set,
@@ -138,25 +138,18 @@ fn read_name(line: &[u8]) -> &[u8] {
 // `open ALGEBRA`, then any number of `house MASK`. Rules one over the other are the one rule of all their masks.
 fn read_algebra(text: &str) -> Result<House<Standard>, Expected> {
     let mut words = text.split_ascii_whitespace().skip(1);
-    let below = match words.next() {
-        Some("instants") => Standard::Instants,
-        Some("spans") => Standard::Spans,
-        Some("regions") => Standard::Regions,
-        _ => return Err(Expected::Algebra),
-    };
+    let below = words
+        .next()
+        .and_then(|name| name.parse::<Standard>().ok())
+        .ok_or(Expected::Algebra)?;
     let code = below.stamp().code;
     let mut mask = NO_HOUSE_RULE;
-    let mut mask_follows = false;
-    for word in words {
-        if mask_follows {
-            mask &= read_set(code, word).ok_or(Expected::HouseRule)?;
-        } else if word != "house" {
-            return Err(Expected::HouseRule);
+    while let Some(word) = words.next() {
+        let set = words.next().and_then(|set| read_set(code, set));
+        match (word, set) {
+            ("house", Some(set)) => mask &= set,
+            _ => return Err(Expected::HouseRule),
         }
-        mask_follows = !mask_follows;
-    }
-    if mask_follows {
-        return Err(Expected::HouseRule);
     }
     Ok(House { below, mask })
 }

@@ -11,7 +11,7 @@ use std::io::{BufRead, BufReader, Write};
 
 fn main(rt: HostRuntime) -> io::Result<()> {
     let heap = rt.alloc();
-    let mut session = Session::new();
+    let mut session = Session::default();
     for line in BufReader::new(heap, rt.stdin())?.split(heap, b'\n') {
         let read = line?;
         let command = without_return(read.as_slice());

@@ -1,34 +1,27 @@
 // What a script has opened, and what its commands answer.
 use crate::answer::Answer;
 use crate::command::{Bond, Command, Expected, Order, Question, read_set};
-use algebra::{Algebra, House, NO_HOUSE_RULE, ReadingSet, Standard, spelled};
-use programme::{Call, Programme};
+use algebra::{Algebra, House, ReadingSet, Standard, spelled};
+use programme::{Call, Programme, Tie};
 use std::alloc::{AllocError, Global};
 
 // A number that no entry has, for a name that none has.
 const NO_ENTRY: usize = usize::MAX;
 
-/// What was opened last. Before that a blank programme stands in, which no command reaches.
-#[derive(Drop)]
+/// What a script has opened last, if anything yet.
+#[derive(Drop, Default)]
 pub struct Session {
-    opened: bool,
+    rehearsal: Option<Rehearsal>,
+}
+
+// An algebra, and the programme that was opened in it.
+#[derive(Drop)]
+struct Rehearsal {
     algebra: House<Standard>,
     programme: Programme<House<Standard>>,
 }
 
 impl Session {
-    pub(crate) fn new() -> Self {
-        let algebra = House {
-            below: Standard::Instants,
-            mask: NO_HOUSE_RULE,
-        };
-        Session {
-            opened: false,
-            algebra,
-            programme: Programme::open(algebra),
-        }
-    }
-
     /// Performs the command on a line; none where the line is blank or a comment.
     pub(crate) fn perform<'a>(
         &mut self,
@@ -36,24 +29,31 @@ impl Session {
         line: &'a [u8],
         text: &'a str,
     ) -> Result<Option<Answer>, AllocError> {
-        let answer = match Command::read(line, text) {
+        let command = match Command::read(line, text) {
+            Ok(Some(command)) => command,
             Ok(None) => return Ok(None),
-            Err(expected) => Answer::NotUnderstood(expected),
-            Ok(Some(Command::Open(algebra))) => self.open(algebra),
-            Ok(Some(_)) if !self.opened => Answer::NotUnderstood(Expected::OpenFirst),
-            Ok(Some(Command::Ask(question))) => self.ask(heap, question)?,
-            Ok(Some(Command::Do(order))) => self.order(order),
+            // What is not understood has an answer too, so it is no error of this function.
+            Err(expected) => return Ok(Some(expected.into())),
+        };
+        let answer = match (command, &mut self.rehearsal) {
+            (Command::Open(algebra), _) => self.open(algebra),
+            (_, None) => Expected::OpenFirst.into(),
+            (Command::Ask(question), Some(rehearsal)) => rehearsal.ask(heap, question)?,
+            (Command::Do(order), Some(rehearsal)) => rehearsal.order(order),
         };
         Ok(Some(answer))
     }
 
     fn open(&mut self, algebra: House<Standard>) -> Answer {
-        self.opened = true;
-        self.algebra = algebra;
-        self.programme = Programme::open(algebra);
+        self.rehearsal = Some(Rehearsal {
+            algebra,
+            programme: Programme::open(algebra),
+        });
         Answer::Opened(algebra.stamp())
     }
+}
 
+impl Rehearsal {
     fn ask(&self, heap: Global, question: Question) -> Result<Answer, AllocError> {
         match self.readings(question) {
             Ok(set) => Ok(Answer::Letters(spelled(heap, self.algebra.stamp().code, set)?)),
@@ -63,85 +63,71 @@ impl Session {
 
     // The set that is asked for, or the answer in its place.
     fn readings(&self, question: Question) -> Result<ReadingSet, Answer> {
-        match question {
-            Question::Universe => Ok(self.algebra.universe()),
-            Question::Converse(set) => Ok(self.algebra.converse(self.set(set, Expected::OneSet)?)),
+        let set = match question {
+            Question::Universe => self.algebra.universe(),
+            Question::Converse(set) => self.algebra.converse(self.set(set, Expected::OneSet)?),
             Question::Compose(first, second) => {
                 let left = self.set(first, Expected::TwoSets)?;
                 let right = self.set(second, Expected::TwoSets)?;
-                Ok(self.algebra.compose(left, right))
+                self.algebra.compose(left, right)
             }
-            Question::Look(first, second) => match self
+            Question::Look(first, second) => self
                 .programme
-                .look(self.number(first), self.number(second))
-            {
-                Ok(settled) => Ok(settled.unwrap_or(0)),
-                Err(refusal) => Err(Answer::Refused(refusal)),
-            },
-            Question::Given(first, second) => match self
+                .look(self.number(first), self.number(second))?
+                .unwrap_or(0),
+            Question::Given(first, second) => self
                 .programme
-                .given(self.number(first), self.number(second))
-            {
-                Ok(set) => Ok(set),
-                Err(refusal) => Err(Answer::Refused(refusal)),
-            },
-        }
+                .given(self.number(first), self.number(second))?,
+        };
+        Ok(set)
     }
 
     fn order(&mut self, order: Order) -> Answer {
-        let call = match self.call(order) {
-            Ok(call) => call,
-            Err(expected) => return Answer::NotUnderstood(expected),
-        };
-        match self.programme.perform(call) {
+        match self.done(order) {
             Ok(number) => Answer::Number(number),
-            Err(refusal) => Answer::Refused(refusal),
+            Err(answer) => answer,
         }
+    }
+
+    // The number that the programme answers, or the answer in its place.
+    fn done(&mut self, order: Order) -> Result<usize, Answer> {
+        let call = self.call(order)?;
+        Ok(self.programme.perform(call)?)
     }
 
     fn call<'a>(&self, order: Order<'a>) -> Result<Call<'a>, Expected> {
         match order {
             Order::Entry(name) => Ok(Call::Entry(name)),
-            Order::Tie(bond) => {
-                let (first, second, mask) = self.bond(bond)?;
-                Ok(Call::Tie {
-                    first,
-                    second,
-                    mask,
-                })
-            }
-            Order::Try(bond) => {
-                let (first, second, mask) = self.bond(bond)?;
-                Ok(Call::Try {
-                    first,
-                    second,
-                    mask,
-                })
-            }
+            Order::Tie(bond) => Ok(Call::Tie(self.tie(bond)?)),
+            Order::Try(bond) => Ok(Call::Try(self.tie(bond)?)),
         }
     }
 
-    fn bond(&self, bond: Bond) -> Result<(usize, usize, ReadingSet), Expected> {
-        let mask = read_set(self.algebra.stamp().code, bond.set).ok_or(Expected::Bond)?;
-        Ok((self.number(bond.first), self.number(bond.second), mask))
+    fn tie(&self, bond: Bond) -> Result<Tie, Expected> {
+        Ok(Tie {
+            first: self.number(bond.first),
+            second: self.number(bond.second),
+            mask: self.set(bond.set, Expected::Bond)?,
+        })
     }
 
-    fn set(&self, word: &str, expected: Expected) -> Result<ReadingSet, Answer> {
-        read_set(self.algebra.stamp().code, word).ok_or(Answer::NotUnderstood(expected))
+    fn set(&self, word: &str, expected: Expected) -> Result<ReadingSet, Expected> {
+        read_set(self.algebra.stamp().code, word).ok_or(expected)
     }
 
     // The number of the entry with that name, or behind an `@`. A name goes first, if it begins so.
     fn number(&self, word: &str) -> usize {
-        for k in 0..self.programme.entries() {
-            if let Ok(name) = self.programme.name(k) {
-                if name == word.as_bytes() {
-                    return k;
-                }
-            }
-        }
-        match word.strip_prefix("@") {
-            Some(digits) if !digits.starts_with('+') => digits.parse::<usize>().unwrap_or(NO_ENTRY),
-            _ => NO_ENTRY,
-        }
+        (0..self.programme.entries())
+            .find(|k| self.programme.name(*k) == Ok(word.as_bytes()))
+            .or_else(|| read_number(word))
+            .unwrap_or(NO_ENTRY)
     }
+}
+
+fn read_number(word: &str) -> Option<usize> {
+    let digits = word.strip_prefix("@")?;
+    if digits.starts_with('+') {
+        return None;
+    }
+    digits.parse::<usize>().ok()
 }

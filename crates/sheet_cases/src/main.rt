@@ -1,10 +1,11 @@
 // Cases of programmes: every refusal and the order of refusals, full sheets, both directions, repeated ties, links, tries, lines.
 #![tactic(auto)]
 
+// Lists of cases have one shape and are no twins, here and in `file_cases`.
 mod cases;
 
 use algebra::{Instants, ReadingSet};
-use cases::{enter_numbered, print_answer, print_ties, tied};
+use cases::{enter_numbered, print_answer, print_ties, tie, tied};
 use programme::{Call, Programme, Refusal, run};
 use std::io;
 
@@ -52,8 +53,8 @@ fn full_sheet(rt: &HostRuntime) -> io::Result<()> {
     print_answer(rt, programme.entry(b"A B"))?;
     print_answer(rt, programme.entry(b"E47"))?;
     print_answer(rt, programme.entry(b"E48"))?;
-    print_answer(rt, programme.tie(47, 0, BEFORE))?;
-    print_answer(rt, programme.tie(48, 0, BEFORE))?;
+    print_answer(rt, programme.tie(tie(47, 0, BEFORE)))?;
+    print_answer(rt, programme.tie(tie(48, 0, BEFORE)))?;
     match programme.name(47) {
         Ok(name) => println!(rt; "{name:?}")?,
         Err(refusal) => println!(rt; "refused {}", refusal.number())?,
@@ -85,8 +86,9 @@ fn ties(rt: &HostRuntime) -> io::Result<()> {
         (0, 2, BEFORE),
     ];
     for (first, second, mask) in ties {
-        print_answer(rt, programme.try_tie(first, second, mask))?;
-        print_answer(rt, programme.tie(first, second, mask))?;
+        let asked = tie(first, second, mask);
+        print_answer(rt, programme.try_tie(asked))?;
+        print_answer(rt, programme.tie(asked))?;
     }
     print_ties(rt, &programme)
 }
@@ -94,17 +96,20 @@ fn ties(rt: &HostRuntime) -> io::Result<()> {
 // What is linked, and what is settled there.
 fn links(rt: &HostRuntime) -> io::Result<()> {
     println!(rt; "a fan with its centre last")?;
-    print_ties(rt, &tied(&[(0, 3, BEFORE), (1, 3, BEFORE), (2, 3, BEFORE)]))?;
+    print_ties(
+        rt,
+        &tied(&[tie(0, 3, BEFORE), tie(1, 3, BEFORE), tie(2, 3, BEFORE)]),
+    )?;
     println!(rt; "a fan with its centre first")?;
-    print_ties(rt, &tied(&[(0, 1, BEFORE), (0, 2, BEFORE)]))?;
+    print_ties(rt, &tied(&[tie(0, 1, BEFORE), tie(0, 2, BEFORE)]))?;
     println!(rt; "a new link is narrowed by old ones")?;
     print_ties(
         rt,
         &tied(&[
-            (1, 0, BEFORE),
-            (0, 2, BEFORE),
-            (1, 3, BEFORE),
-            (2, 3, BEFORE),
+            tie(1, 0, BEFORE),
+            tie(0, 2, BEFORE),
+            tie(1, 3, BEFORE),
+            tie(2, 3, BEFORE),
         ]),
     )
 }
@@ -116,21 +121,9 @@ fn line(rt: &HostRuntime) -> io::Result<()> {
         Call::Entry(b"LAMP"),
         Call::Entry(b"LAMP"),
         Call::Entry(b"CURTAIN"),
-        Call::Try {
-            first: 0,
-            second: 1,
-            mask: BEFORE,
-        },
-        Call::Tie {
-            first: 1,
-            second: 0,
-            mask: BEFORE,
-        },
-        Call::Tie {
-            first: 0,
-            second: 1,
-            mask: BEFORE,
-        },
+        Call::Try(tie(0, 1, BEFORE)),
+        Call::Tie(tie(1, 0, BEFORE)),
+        Call::Tie(tie(0, 1, BEFORE)),
     ];
     let mut answers: [Result<usize, Refusal>; 6] = [Ok(0); 6];
     match run(Instants, &calls, &mut answers) {

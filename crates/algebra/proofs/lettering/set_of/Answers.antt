@@ -11,5 +11,5 @@ loop-x-init c = reads_none c.args.code c.args.text.now
 pub loop-x-preserved : goal.loop-x-preserved
 loop-x-preserved c =
     subst (λ s. Reads c.args.code c.args.text.now (c.loop-x.x-index + 1) (bit_or c.loop-x.set s))
-    (sym (one_shl c.in-Some.k 32 (search rules)))
-    (reads_more c.args.code c.args.text.now c.loop-x.x-index c.loop-x.set c.in-Some.k c.loop-x.invariant c.in-Some.ensures)
+    (sym (one_shl c.in_ok-set.field-0 32 (search rules)))
+    (reads_more c.args.code c.args.text.now c.loop-x.x-index c.loop-x.set c.in_ok-set.field-0 c.loop-x.invariant c.in_ok-set.ensures)

@@ -1,27 +1,13 @@
--- Spans that share some time stand as their starts and then their ends do.
+-- Spans that share some time stand as their starts and their ends do.
 use Rattle.std.proofs.Common.{arith}
-use Rattle.std.proofs.lemmas.Int.{ints}
-use Rattle.algebra.specs.Spans.{SpansStand}
-use Rattle.algebra.proofs.GroupLaws.{by_order}
+use Rattle.std.proofs.lemmas.Int.{ints, to_z-of_z}
 use Rattle.algebra.proofs.span.between.Goals as goal
 
-pub returns-then-start-from : goal.returns-then-start-from
-returns-then-start-from c x y p q r s =
-    let ends = c.by_ends.ensures in
-    by_order (λ a. SpansStand a x y) c.args.end c.args.to _ 5 12 10 (λ h. ends.before (omega (arith, ints)))
-    (λ h. ends.with (omega (arith, ints))) (λ h. ends.after (omega (arith, ints)))
-    (λ h. omega (arith, ints)) (λ h. omega (arith, ints)) (λ h. omega (arith, ints))
-
-pub returns-then-from-start : goal.returns-then-from-start
-returns-then-from-start c x y p q r s =
-    let ends = c.by_ends-then-from-start.ensures in
-    by_order (λ a. SpansStand a x y) c.args.end c.args.to _ 9 11 6 (λ h. ends.before (omega (arith, ints)))
-    (λ h. ends.with (omega (arith, ints))) (λ h. ends.after (omega (arith, ints)))
-    (λ h. omega (arith, ints)) (λ h. omega (arith, ints)) (λ h. omega (arith, ints))
-
-pub returns-else-from-start : goal.returns-else-from-start
-returns-else-from-start c x y p q r s =
-    let ends = c.by_ends-else-from-start.ensures in
-    by_order (λ a. SpansStand a x y) c.args.end c.args.to _ 7 0 8 (λ h. ends.before (omega (arith, ints)))
-    (λ h. ends.with (omega (arith, ints))) (λ h. ends.after (omega (arith, ints)))
-    (λ h. omega (arith, ints)) (λ h. omega (arith, ints)) (λ h. omega (arith, ints))
+pub returns-else-to-start-2 : goal.returns-else-to-start-2
+returns-else-to-start-2 c x y p q r s =
+    let f = c.ranges.start in
+    let g = c.ranges.end in
+    let h = c.ranges.from in
+    let k = c.ranges.to in
+    c.overlapping.ensures x y (rw (p, r) (simp to_z-of_z at c.cmp.ensures)) (rw (q, s) (simp to_z-of_z at c.cmp-else-to-start-2.ensures))
+    (omega (arith, ints)) (omega (arith, ints))

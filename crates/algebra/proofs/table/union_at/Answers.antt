@@ -1,17 +1,21 @@
-use Rattle.std.proofs.Common.{refl, arith, rules}
-use Rattle.algebra.proofs.Lowest.{lowest_below, others_less, union_step, union_end}
+use Rattle.std.proofs.Common.{length, refl, arith}
+use Rattle.algebra.proofs.Lowest.{visited_below, union_step, union_end}
 use Rattle.algebra.proofs.table.union_at.Goals as goal
 
-pub bounds-row-rest : goal.bounds-row-rest
-bounds-row-rest g c =
-    lowest_below g.row.N c.loop-rest.rest c.loop-rest-test.true (search rules) (omega arith)
+pub offset_bounds-row-k : goal.offset_bounds-row-k
+offset_bounds-row-k c =
+    let place = visited_below 32 c.loop-k.k-iterator.0 c.in-Some.k _ c.in-Some.ensures.steps (omega arith) in omega arith
 
-pub loop-rest-preserved : goal.loop-rest-preserved
-loop-rest-preserved g c =
-    let less = others_less c.loop-rest.rest c.loop-rest-test.true in (
-      union_step c.loop-rest.rest _ c.loop-rest.sum _ _ c.loop-rest-test.true (search rules) refl c.loop-rest.invariant.0,
-      omega arith,
-    )
+pub bounds-row-k : goal.bounds-row-k
+bounds-row-k c = visited_below (length c.args.row.now) c.loop-k.k-iterator.0 c.in-Some.k _ c.in-Some.ensures.steps (omega arith)
+
+pub loop-k-preserved : goal.loop-k-preserved
+loop-k-preserved c =
+    let visit = c.in-Some.ensures.steps in
+    record {
+      below = omega (arith, visit.less);
+      united = union_step c.loop-k.k-iterator.0 c.in-Some.k _ _ c.loop-k.sum _ _ visit (omega arith) refl c.loop-k.invariant.united;
+    }
 
 pub returns : goal.returns
-returns g c = union_end c.loop-rest.rest _ c.loop-rest.sum _ c.loop-rest-test.false c.loop-rest.invariant.0
+returns c = union_end c.loop-k.k-iterator.0 _ c.loop-k.sum _ c.in-None.ensures.steps.0 c.loop-k.invariant.united

@@ -1,23 +1,6 @@
--- A head that is refused, a file that loads, and one that is refused.
-use Rattle.std.proofs.Common.{ap, inl}
-use Rattle.algebra.specs.House.{housed}
-use Rattle.algebra.specs.Standard.{meaning_of}
-use Rattle.listing.proofs.Opening.{file_refused, file_listed}
+-- A file that is listed.
+use Rattle.listing.proofs.Opening.{file_listed}
 use Rattle.listing.proofs.pages.page.Goals as goal
 
-pub returns-in-Err : goal.returns-in-Err
-returns-in-Err c = (c.if-bytes-gt-LONGEST_LISTED.false, inl c.in-Err.ensures)
-
-pub returns-in-Err-load : goal.returns-in-Err-load
-returns-in-Err-load c =
-    let opened = c.open-programme.ensures in
-    file_refused _ _ _ (ap (λ a. housed (meaning_of a.below) a.mask) opened.lent) c.if-bytes-gt-LONGEST_LISTED.false
-    c.in-Ok.ensures _ _ opened.shown _ c.in-Err-load.ensures.kept
-
-pub returns-in_ok-listing-in-Ok-load : goal.returns-in_ok-listing-in-Ok-load
-returns-in_ok-listing-in-Ok-load c =
-    let opened = c.open-programme.ensures in
-    let told = c.in-Ok-load.ensures in
-    file_listed _ _ _ (ap (λ a. housed (meaning_of a.below) a.mask) opened.lent) c.if-bytes-gt-LONGEST_LISTED.false
-    c.in-Ok.ensures _ _ opened.shown _ _ _ (ap (λ a. housed (meaning_of a.below) a.mask) told.lent) told.kept
-    c.in_ok-listing-in-Ok-load.ensures
+pub returns-in_ok-listing-in-Ok : goal.returns-in_ok-listing-in-Ok
+returns-in_ok-listing-in-Ok c = file_listed _ _ _ _ c.in-Ok.ensures c.in_ok-listing-in-Ok.ensures

@@ -1,30 +1,12 @@
--- A line, from its start to its end.
-use Rattle.std.proofs.Common.{refl, ap, ◌∙◌, arith, rules}
-use Rattle.qcue.proofs.Performing.{line_none, line_more, line_all}
+-- The line, from the opening on.
+use Rattle.std.proofs.Common.{ap}
+use Rattle.programme.proofs.Performing.{given_on}
+use Rattle.qcue.specs.Performed.{FromBlank}
+use Rattle.qcue.proofs.Performing.{from_blank}
 use Rattle.qcue.proofs.lines.run.Goals as goal
 
-pub loop-k-init : goal.loop-k-init
-loop-k-init g c = (
-  refl,
-  line_none _ _ _ (ap g.B.Algebra.meaning c.open-programme.ensures.lent) (g.met.B.Algebra.lawful _)
-      c.open-programme.ensures.shown,
-)
-
-pub loop-k-preserved : goal.loop-k-preserved
-loop-k-preserved g c =
-    let same = c.loop-k.invariant.0 in (
-      c.perform.ensures.lent ∙ same,
-      line_more _ _ _ _ _ _ _ _ _ (ap g.B.Algebra.meaning same) (g.met.B.Algebra.lawful _) c.loop-k-test.true
-          (omega (arith, c.loop-k.auto.answers, c.if-requests-answers.false)) (search rules) c.loop-k.invariant.1
-          c.perform.ensures.kept,
-    )
-
-pub returns : goal.returns
-returns g c =
-    let lent = c.open-programme.ensures.lent in
-    record {
-      lent = c.loop-k.invariant.0 ∙ lent;
-      fits = c.if-requests-answers.false;
-      line = line_all _ _ _ _ _ c.loop-k.k (ap g.B.Algebra.meaning lent) c.loop-k-test.false
-          (omega (arith, c.loop-k.auto.answers, c.if-requests-answers.false)) c.loop-k.invariant.1;
-    }
+pub returns-clause-line : goal.returns-clause-line
+returns-clause-line g c =
+    given_on (λ p. FromBlank (g.B.Algebra.meaning c.args.algebra) _ _ p.sheet) _ _ _ c.then_some.ensures
+    (λ t. from_blank _ _ _ _ _ _ (ap g.B.Algebra.meaning c.open-programme.ensures.lent) (g.met.B.Algebra.lawful _)
+    c.open-programme.ensures.shown (c.perform_each.ensures.line t))

@@ -1,5 +1,5 @@
 -- How far the load has come.
-use Rattle.std.proofs.Common.{◌≡◌, ◌+◌, ◌≤◌, length}
+use Rattle.std.proofs.Common.{◌≡◌, ◌-◌, ◌≤◌, length, drop}
 use Rattle.programme.specs.Ledgers.{Ledger}
 use Rattle.programme.specs.Shown.{Shows}
 use Rattle.qcue.proofs.Progress.{Reached}
@@ -7,12 +7,15 @@ use Rattle.qcue.proofs.loading.take_all.Given as goal
 
 abbrev pub invariant-loop-loader : goal.invariant-loop-loader
 invariant-loop-loader g l =
-    (l.programme.algebra ≡ l.initial.programme.algebra)
-    × (l.offset + length l.rest ≡ length l.bytes)
-    × (l.loader.ties ≤ l.offset)
-    × ((L : Ledger) → Shows (g.B.Algebra.meaning l.initial.programme.algebra) l.initial.programme.sheet L →
-    length L.names ≡ 0 →
-    Reached (g.B.Algebra.meaning l.initial.programme.algebra) l.programme.sheet L l.bytes l.loader l.rest l.offset)
+    let begun = l.initial.programme in
+    let m = g.B.Algebra.meaning begun.algebra in
+    record {
+      lent : l.programme.algebra ≡ begun.algebra;
+      within : l.offset ≤ length l.bytes;
+      few : l.loader.ties ≤ l.offset;
+      reached : (L : Ledger) → Shows m begun.sheet L → length L.names ≡ 0 →
+          Reached m l.programme.sheet L l.bytes l.loader (drop l.offset l.bytes) l.offset;
+    }
 
 abbrev pub decreases-loop-loader : goal.decreases-loop-loader
-decreases-loop-loader g l = length l.rest
+decreases-loop-loader g l = length l.bytes - l.offset

@@ -1,9 +1,6 @@
 -- A buffer that is too short, and one that is not.
-use Rattle.qcue.proofs.Filing.{too_short, written}
+use Rattle.qcue.proofs.Filing.{written}
 use Rattle.qcue.proofs.writing.write.Goals as goal
-
-pub returns-then-buffer-length : goal.returns-then-buffer-length
-returns-then-buffer-length g c = too_short _ _ _ _ _ _ c.lay_out-length.ensures.laid c.if-buffer-length.true
 
 pub returns : goal.returns
 returns g c =

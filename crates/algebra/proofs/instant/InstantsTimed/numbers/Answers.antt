@@ -1,7 +1,6 @@
--- One number makes an instant, and instants are described by it.
-use Rattle.std.proofs.Common.{refl, lit<}
+-- Instants are described by their numbers.
 use Rattle.algebra.proofs.GroupLaws.{instants_measured}
 use Rattle.algebra.proofs.instant.InstantsTimed.numbers.Goals as goal
 
-pub returns : goal.returns
-returns c = record { value = refl; some = lit< tt; measured = instants_measured }
+pub returns-clause-measured : goal.returns-clause-measured
+returns-clause-measured c = instants_measured

@@ -8,5 +8,5 @@ pub returns : goal.returns
 returns c =
     let f : SFits w32 (get_or c.args.first.now 0 (pos 0)) = search rules in
     let g : SFits w32 (get_or c.args.second.now 0 (pos 0)) = search rules in
-    instant_reads c.args.first.now c.args.second.now _ (c.is_thing.ensures.0 c.if-not-is_thing.false)
-    (c.is_thing-else-not-is_thing.ensures.0 c.if-not-is_thing-2.false) (simp to_z-of_z at c.between.ensures)
+    rw c.number.ensures (instant_reads c.args.first.now c.args.second.now _ (c.is_thing.ensures.0 c.if-not-is_thing.false)
+    (c.is_thing-else-not-is_thing.ensures.0 c.if-not-is_thing-2.false) (simp to_z-of_z at c.between.ensures))

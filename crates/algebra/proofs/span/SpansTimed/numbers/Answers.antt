@@ -1,7 +1,6 @@
--- Two numbers make a span, and spans are described by them.
-use Rattle.std.proofs.Common.{refl, lit<}
+-- Spans are described by their numbers.
 use Rattle.algebra.proofs.GroupLaws.{spans_measured}
 use Rattle.algebra.proofs.span.SpansTimed.numbers.Goals as goal
 
-pub returns : goal.returns
-returns c = record { value = refl; some = lit< tt; measured = spans_measured }
+pub returns-clause-measured : goal.returns-clause-measured
+returns-clause-measured c = spans_measured

@@ -10,5 +10,5 @@ returns c =
     let b : SFits w32 (get_or c.args.first.now 1 (pos 0)) = search rules in
     let d : SFits w32 (get_or c.args.second.now 0 (pos 0)) = search rules in
     let e : SFits w32 (get_or c.args.second.now 1 (pos 0)) = search rules in
-    span_reads c.args.first.now c.args.second.now _ (c.is_thing.ensures.0 c.if-not-is_thing.false)
-    (c.is_thing-else-not-is_thing.ensures.0 c.if-not-is_thing-2.false) (simp to_z-of_z at c.between.ensures)
+    rw c.number.ensures (span_reads c.args.first.now c.args.second.now _ (c.is_thing.ensures.0 c.if-not-is_thing.false)
+    (c.is_thing-else-not-is_thing.ensures.0 c.if-not-is_thing-2.false) (simp to_z-of_z at c.between.ensures))

@@ -2,24 +2,21 @@
 use Rattle.std.proofs.Common.{◌≡◌, ℕ, ◌^◌, ◌<◌, false, length, get_or, sym, refl, ap, ◌∙◌, inl, inr, arith, rules}
 use Rattle.std.proofs.lemmas.Bool.{cases_eq, cases_Bool}
 use Rattle.algebra.specs.Masks.{has}
+use Rattle.algebra.specs.Bits.{has_zero}
 use Rattle.programme.specs.Networks.{bit_at}
 use Rattle.programme.specs.Steps.{pending_at}
-use Rattle.programme.proofs.Bits.{some_bit, lowest_least}
 use Rattle.programme.proofs.Rows.{took_by, pending_none}
 use Rattle.programme.proofs.linkage.Network.take.Goals as goal
+use Rattle.programme.proofs.linkage.Network.take.Goals.{in_default-via-in-None-1, in_default-via-in-Some+else-j-lt-ENTRIES}
 
-pub overflow_sub-self : goal.overflow_sub-self
-overflow_sub-self c = let n = some_bit (get_or c.loop-i.self.pending c.loop-i.i 0) c.if-j-lt-ENTRIES.true in omega arith
-
-pub returns-then-j-lt-ENTRIES : goal.returns-then-j-lt-ENTRIES
-returns-then-j-lt-ENTRIES c =
+pub returns-in-loop-i : goal.returns-in-loop-i
+returns-in-loop-i c =
     let s = c.loop-i.self in
     let i = c.loop-i.i in
-    let n = some_bit (get_or s.pending i 0) c.if-j-lt-ENTRIES.true in
     let l : i < length s.pending = search rules in
     let f : get_or s.pending i 0 < 2 ^ 64 = search rules in
-    let low = c.if-j-lt-ENTRIES.true in
-    took_by c.args.self.now s _ i c.loop-i.invariant.0 c.loop-i-test.true l n f low refl refl refl
+    took_by c.args.self.now s _ i c.in-Some.j _ c.loop-i.invariant.0 c.loop-i-test.true l c.if-j-lt-ENTRIES.true f
+    c.in-Some.ensures.steps refl refl refl
 
 pub loop-i-preserved : goal.loop-i-preserved
 loop-i-preserved c = (
@@ -33,9 +30,12 @@ loop-i-preserved c = (
     none : (y : ℕ) → y < 48 → bit_at c.loop-i.self.pending c.loop-i.i y ≡ false
     none y h =
         let row = get_or c.loop-i.self.pending c.loop-i.i 0 in
-        elim (cases_Bool (has row y)) [
-          | inl b ↦ absurd (omega (arith, lowest_least 64 row y b, c.if-j-lt-ENTRIES.false))
-          | inr b ↦ b
+        elim c.in_default.branch [
+          | in_default-via-in-None-1 w ↦ let e : row ≡ 0 = search rules in rw e (has_zero y)
+          | in_default-via-in-Some+else-j-lt-ENTRIES w ↦ elim (cases_Bool (has row y)) [
+            | inl b ↦ let least = w.in-Some.ensures.steps.least y b in absurd (omega (arith, w.if-j-lt-ENTRIES.false))
+            | inr b ↦ b
+          ]
         ]
 
 pub returns : goal.returns

@@ -1,8 +1,8 @@
 -- Two cells, and the pair pending.
-use Rattle.std.proofs.Common.{ℕ, ◌<◌, List, [], length, get_or, ap, ◌∙◌, arith, rules}
+use Rattle.std.proofs.Common.{sum, sum_by, ℕ, ◌<◌, List, [], length, get_or, ap, ◌∙◌, arith, rules}
 use borrow.Author.Rules.{Below-row}
 use Rattle.programme.specs.Networks.{cell}
-use Rattle.programme.specs.Steps.{pending_at, weight, sums}
+use Rattle.programme.specs.Steps.{pending_at, weight}
 use Rattle.programme.proofs.Cells.{cut_by}
 use Rattle.programme.proofs.linkage.Network.trim.Goals as goal
 
@@ -27,5 +27,5 @@ returns c =
       waits = p.there;
       waits_more = p.more;
       waits_only = p.only;
-      lighter = λ l. let a = w.lighter l in let b = ap sums p.sets in omega arith;
+      lighter = λ l. let a = w.lighter l in let b = ap (sum_by sum) p.sets in omega arith;
     }

@@ -13,7 +13,7 @@ returns-in_err-reply g c =
       lent = refl;
       kept =
           rw (p.1, p.2)
-          (refused_keeps m c.args.self.now.sheet c.drop-attempt.new.self.0 c.args.first c.args.second
-          c.args.mask c.drop-attempt.ensures c.in_err-reply.field-0.0
+          (refused_keeps m c.args.self.now.sheet c.drop-attempt.new.self.0 c.args.asked.first c.args.asked.second
+          c.args.asked.mask c.drop-attempt.ensures c.in_err-reply.field-0.0
           (λ L w. told.answered L w (c.in_ok-allowed.ensures.told L w)) told.timely);
     }

@@ -1,0 +1,8 @@
+-- The digits of the two numbers.
+use Rattle.std.proofs.Common.{rules}
+use Rattle.std.specs.Fmt.{digits}
+use Rattle.listing.proofs.pages.RefusedDisplay.fmt.Goals as goal
+
+pub returns-in-TooLong-clause-writes : goal.returns-in-TooLong-clause-writes
+unfolding digits
+returns-in-TooLong-clause-writes g c = search rules
