@@ -1,9 +1,9 @@
 -- Readings as letters: one letter more that is written or read.
-use Rattle.std.proofs.Common.{◌≡◌, ℕ, zero, suc, ◌+◌, ◌^◌, ◌<◌, Bool, true, false, cond, eqb, ltb, ◌⊎◌, List, [], ◌∷◌, ◌++◌, length, get_or, take, codes, sym, refl, ap, ◌∙◌, subst, inl, inr, append-nil, not-suc-le-zero, add-zero, zero-add, add-one, arith}
+use Rattle.std.proofs.Common.{◌≡◌, ℕ, zero, suc, ◌+◌, ◌^◌, ◌<◌, Bool, true, false, cond, eqb, ◌⊎◌, List, [], ◌∷◌, ◌++◌, length, get_or, take, codes, sym, refl, ap, ◌∙◌, subst, inl, inr, append-nil, not-suc-le-zero, add-zero, zero-add, add-one, arith}
 use lib.Bits.{bit_or}
-use Rattle.std.proofs.lemmas.Bool.{cond_both, ltb-true, eqb-true, eq-eqb, cases_lt, or_cases, or_left, or_right, false≢true}
+use Rattle.std.proofs.lemmas.Bool.{cond_both, eqb-true, eq-eqb, cases_lt, or_cases, or_left, or_right, false≢true}
 use Rattle.algebra.specs.Masks.{has}
-use Rattle.algebra.specs.Letters.{letters_of, Ascii, spelling_from, StandsFor, Reads}
+use Rattle.algebra.specs.Letters.{letters_of, spelling_from, StandsFor, Reads}
 use Rattle.algebra.specs.Bits.{has_or, has_one, has_zero}
 use Rattle.algebra.specs.Tests.{all, all_at, if_so, so}
 
@@ -44,14 +44,6 @@ module _ (P : List ℕ → Type 0) (test : List ℕ → Bool) (tells : (xs : Lis
       cond_both (eqb code 1) _ _ P (λ _. tells _ t1)
       (λ _. cond_both (eqb code 2) _ _ P (λ _. tells _ t2)
       (λ _. cond_both (eqb code 3) _ _ P (λ _. tells _ t3) (λ _. tells _ t0)))
-
-ascii : List ℕ → Bool
-ascii xs = all (length xs) (λ k. ltb (get_or xs k 0) 128)
-
-pub letters_ascii : (code : ℕ) → Ascii (letters_of code)
-unfolding all ascii
-letters_ascii code =
-    each_code Ascii ascii (λ xs t k h. ltb-true _ _ (all_at (length xs) _ t k h)) code refl refl refl refl
 
 abbrev Distinct : List ℕ → Type 0
 Distinct xs = (i j : ℕ) → i < length xs → j < length xs → get_or xs i 0 ≡ get_or xs j 0 → i ≡ j

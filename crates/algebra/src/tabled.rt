@@ -10,6 +10,7 @@ use crate::table::Tables;
 pub trait Tabled {
     ghost described: { Self → Meaning };
 
+    /// The tables that tell what it means.
     fn tables(&self) -> Tables
         ensures { described self.now ≡ tabled result.code result.universe result.converses.now
             (rows_of result.compositions.now) };

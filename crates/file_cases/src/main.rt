@@ -1,6 +1,7 @@
 // Cases of files: those that came with their answers, the example cut short and changed in many ways, buffers.
 #![tactic(auto)]
 
+// Lists of cases have one shape and are no twins, here and in `sheet_cases`.
 mod calls;
 mod example;
 mod layout;

@@ -16,7 +16,7 @@ use Rattle.qcue.specs.Taken.{TakesAll}
 use Rattle.qcue.specs.Laid.{PutFile, WrittenAs}
 use Rattle.qcue.specs.declared.loading.Expected.TheVariants.{Head, Nothing}
 use Rattle.qcue.specs.declared.refusals.Fault.{Fault}
-use Rattle.qcue.specs.declared.refusals.FileRefusal.TheVariants.{TooShort, Occupied}
+use Rattle.qcue.specs.declared.refusals.FileRefusal.TheVariants.{Occupied}
 use Rattle.qcue.specs.declared.refusals.Reason.TheVariants.{File}
 use Rattle.qcue.proofs.Determined.{weaken, one_load}
 use Rattle.qcue.proofs.Holding.{loads_exactly}
@@ -95,9 +95,6 @@ module _ (m : Meaning) (s : Sheet) (bytes : List ℕ) (n : ℕ) (counted : (L : 
 -- ---- write
 
 module _ (m : Meaning) (s : Sheet) where
-  pub too_short : (old none left : List ℕ) (n : ℕ) → PutFile m s none left n → length old < n → WrittenAs m s old old (Err TooShort)
-  too_short old none left n p h = (refl, refl, λ L w. (p.bytes, p.file L w, omega (arith, p.put.ends)))
-
   -- a ledger has one file
   one_file : (L : Ledger) (these those : List ℕ) → FileOf m L these → FileOf m L those → these ≡ those
   one_file L these those (a, p, e) (b, q, f) = rw (e, f, one_list m L a b p q) refl

@@ -13,7 +13,7 @@ use Rattle.programme.specs.Questions.{Told, ToldAs}
 use Rattle.programme.specs.Shown.{Shows}
 use Rattle.programme.specs.declared.refusals.Refusal.{Refusal}
 use Rattle.programme.specs.declared.sheets.Sheet.{Sheet}
-use Rattle.programme.proofs.Pairs.{rows_none, rows_more, rows_past, rows_row, rows_all}
+use Rattle.programme.proofs.Pairs.{rows_none, rows_more, rows_past, rows_row}
 use Rattle.qcue.specs.Records.{le16}
 use Rattle.qcue.specs.Written.{head_bytes, entry_bytes, tie_bytes, end_bytes}
 use Rattle.qcue.specs.Laid.{Put, PutEntry, PutEntries, Upto, Next, PutPair, PutRow, PutTies, PutFile}
@@ -155,13 +155,6 @@ module _ (m : Meaning) (s : Sheet) where
       upto = λ L w.
           let two : i + 1 + 1 ≡ i + 2 = omega arith in
           rw two (q.next L w (omega (arith, counted L w)) p.rows (p.upto L w));
-    }
-
-    pub ties_all : (i : ℕ) (old new : List ℕ) (at end : ℕ) → n ≤ i → TiesTo i old at new end → PutTies m s old at new end
-    ties_all i old new at end h p = record {
-      rows = p.rows;
-      put = p.put;
-      pairs = λ L w. rows_all _ _ _ _ (p.upto L w) (length L.names) (tied_within _ _ w.proper) (omega (arith, counted L w));
     }
 
     -- ---- the whole file

@@ -1,5 +1,5 @@
 -- One record of a load: what the loader and the programme do, as the ledger says it.
-use Rattle.std.proofs.Common.{◌≡◌, ℕ, ◌+◌, ◌≤◌, Bool, true, false, cond, eqb, ◌≢◌, List, length, Some, None, Ok, Err, Option, sym, refl, ap, ◌∙◌, arith}
+use Rattle.std.proofs.Common.{◌≡◌, ℕ, ◌+◌, Bool, true, false, cond, eqb, ◌≢◌, List, length, Some, None, Ok, Err, Option, sym, refl, ap, ◌∙◌, arith}
 use Rattle.std.proofs.lemmas.List.{length_push}
 use Rattle.std.proofs.lemmas.Bool.{eqb-true, ne_eqb, false≢true}
 use Rattle.algebra.specs.Meaning.{Meaning}
@@ -42,14 +42,6 @@ none_tied : (entry tied : Bool) (name : List ℕ) (i j mask n : ℕ) →
 none_tied true tied name i j mask n e = let z : ◌≡◌ {A = ℕ} 0 1 = cc in absurd (omega arith)
 none_tied false true name i j mask n e = let z : ◌≡◌ {A = ℕ} 0 1 = cc in absurd (omega arith)
 none_tied false false name i j mask n e = refl
-
-one_more : (tied : Bool) (n : ℕ) → cond tied (n + 1) n ≤ n + 1
-one_more true n = omega arith
-one_more false n = omega arith
-
-pub few_more : (stamp : Stamp) (entries : ℕ) (bytes : List ℕ) (l k : Loader) (found : Option Call × ℕ) →
-    Step stamp entries bytes l k found → k.ties ≤ l.ties + 1
-few_more stamp entries bytes l k found step = rw step.counted (one_more (eqb (kind_of bytes) 3) l.ties)
 
 module _ (m : Meaning) (s : Sheet) (l : Loader) (bytes : List ℕ) (stamp : Stamp) (entries : ℕ) (is : stamp ≡ m.stamp)
     (counted : (L : Ledger) → Shows m s L → entries ≡ length L.names) (L : Ledger) (w : Shows m s L) (a : Along l L) where

@@ -1,6 +1,6 @@
 -- One entry more.
-use Rattle.std.proofs.Common.{refl, ◌∙◌}
-use Rattle.listing.proofs.Adding.{entries_none, entries_more, entries_all}
+use Rattle.std.proofs.Common.{◌∙◌}
+use Rattle.listing.proofs.Adding.{entries_more}
 use Rattle.listing.proofs.listings.Lines.add_entries.Goals as goal
 
 pub loop-number-preserved : goal.loop-number-preserved

@@ -1,7 +1,7 @@
 -- An entry that is not there, and one that is.
-use Rattle.std.proofs.Common.{◌≡◌, ◌++◌, codes, string_bytes, OnOk, refl, rules}
+use Rattle.std.proofs.Common.{◌≡◌, ◌++◌, codes, string_bytes, OnOk, rules}
 use Rattle.std.proofs.lemmas.Result.{on_ok_weaker}
-use Rattle.listing.proofs.Adding.{entry_missing, entry_added}
+use Rattle.listing.proofs.Adding.{entry_added}
 use Rattle.listing.proofs.listings.Lines.add_entry.Goals as goal
 
 pub returns-clause-added : goal.returns-clause-added

@@ -1,5 +1,5 @@
 -- Two entries that are not linked, and two that are.
-use Rattle.std.proofs.Common.{ℕ, List, ◌++◌, string_bytes, refl, ap, ◌∙◌}
+use Rattle.std.proofs.Common.{ℕ, List, ◌++◌, string_bytes, ap, ◌∙◌}
 use Rattle.algebra.specs.declared.interface.Stamp.{Stamp}
 use Rattle.listing.specs.declared.texts.Link.{Link}
 use Rattle.listing.specs.Listed.{link_line_of}

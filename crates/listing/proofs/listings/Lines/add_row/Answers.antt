@@ -1,6 +1,6 @@
 -- One link more.
-use Rattle.std.proofs.Common.{refl, ◌∙◌, arith}
-use Rattle.listing.proofs.Adding.{one_at_most, row_none, row_more, row_all}
+use Rattle.std.proofs.Common.{◌∙◌, arith}
+use Rattle.listing.proofs.Adding.{one_at_most, row_more, row_all}
 use Rattle.listing.proofs.listings.Lines.add_row.Goals as goal
 
 pub loop-second-preserved : goal.loop-second-preserved
