@@ -11,8 +11,8 @@ mod vectors;
 use algebra::Spans;
 use example::example;
 use loads::{print_answer, print_load};
-use programme::Programme;
-use qcue::{load, write};
+use programme::{Call, Programme, Tie};
+use qcue::{Answer, Request, load, run, write};
 use std::io;
 
 // Stands where nothing was written, and nowhere in the example.
@@ -24,7 +24,8 @@ fn main(rt: HostRuntime) -> io::Result<()> {
     occupied(&rt)?;
     layout::print_all(&rt)?;
     calls::print_all(&rt)?;
-    buffers(&rt)
+    buffers(&rt)?;
+    line(&rt)
 }
 
 // The example cut at each length.
@@ -76,4 +77,45 @@ fn buffers(rt: &HostRuntime) -> io::Result<()> {
 
 fn untouched(buffer: &[u8]) -> usize {
     buffer.iter().filter(|byte| **byte == UNTOUCHED).count()
+}
+
+// Calls and loads, some of them refused: of a part of the file, of the file twice, of a name that it has.
+fn requests<'a>(file: &'a [u8]) -> [Request<'a>; 7] {
+    let tie = Tie {
+        first: 0,
+        second: 1,
+        mask: 0x2,
+    };
+    [
+        Request::Load(file.split_last().map_or(file, |(_, part)| part)),
+        Request::Load(file),
+        Request::Load(file),
+        Request::Call(Call::Entry(b"C")),
+        Request::Call(Call::Entry(b"D")),
+        Request::Call(Call::Try(tie)),
+        Request::Call(Call::Tie(tie)),
+    ]
+}
+
+// A line of calls and loads, with its answers recorded.
+fn line(rt: &HostRuntime) -> io::Result<()> {
+    println!(rt; "a line")?;
+    let file = example(rt.alloc())?;
+    let requests = requests(file.as_slice());
+    let mut answers = [Answer::Call(Ok(0)); 7];
+    match run(Spans, &requests, &mut answers) {
+        Some(programme) => println!(rt; "{} entries", programme.entries())?,
+        None => println!(rt; "not performed")?,
+    }
+    for answer in answers {
+        match answer {
+            Answer::Call(Ok(number)) => println!(rt; "{number}")?,
+            Answer::Call(Err(refusal)) => println!(rt; "refused {}", refusal.number())?,
+            Answer::Load(answer) => print_answer(rt, answer)?,
+        }
+    }
+    match run(Spans, &requests, &mut answers[1..]) {
+        Some(_) => println!(rt; "performed"),
+        None => println!(rt; "not performed"),
+    }
 }

@@ -1,13 +1,20 @@
 // The commands of a script, as they are written.
 use algebra::{Algebra, House, NO_HOUSE_RULE, ReadingSet, Standard, set_of};
+use std::alloc::{AllocError, Global};
 use std::fmt;
+use std::str::from_utf8;
 
-/// Sets and entries are kept as words: what they mean depends on what is open when the command is performed.
+/// Sets and entries are kept as words: what they mean depends on what is open when the command is performed. Files are kept as paths.
 #[derive(Clone, Copy)]
 pub enum Command<'a> {
     Open(House<Standard>),
     Ask(Question<'a>),
     Do(Order<'a>),
+    Load(&'a str),
+    Write(&'a str),
+    /// The whole line, whose numbers stand behind the verb.
+    Fits(&'a str),
+    List,
 }
 
 /// What asks for a set and changes nothing.
@@ -47,6 +54,10 @@ pub enum Expected {
     TwoSets,
     Bond,
     TwoEntries,
+    File,
+    Numbers,
+    Timed,
+    ListAlone,
     OpenFirst,
 }
 
@@ -54,7 +65,7 @@ impl Expected {
     fn text(self) -> &'static str {
         match self {
             Expected::Command =>
-                "open, universe, converse, compose, entry, tie, try, look or given",
+                "open, universe, converse, compose, entry, tie, try, look, given, load, write, fits or list",
             Expected::Algebra => "open, then instants, spans or regions",
             Expected::HouseRule => "house and a mask, any number of times, behind the algebra",
             Expected::NoSet => "universe alone",
@@ -63,6 +74,10 @@ impl Expected {
             Expected::Bond =>
                 "an entry, a set in letters or as 0x and hexadecimal digits, and an entry",
             Expected::TwoEntries => "two entries, each by its name or by its number as @3",
+            Expected::File => "the path of a file, in text, behind one space",
+            Expected::Numbers => "fits and whole numbers of 32 bits, a group for each entry",
+            Expected::Timed => "instants or spans to be open, with no house rule",
+            Expected::ListAlone => "list alone",
             Expected::OpenFirst => "open before any other command",
         }
     }
@@ -77,17 +92,18 @@ impl fmt::Display for Expected {
 impl<'a> Command<'a> {
     /// The command on a line, which comes as its bytes and as text; none where the line is blank or a comment.
     pub(crate) fn read(line: &'a [u8], text: &'a str) -> Result<Option<Command<'a>>, Expected> {
-        let mut words = text.split_ascii_whitespace();
-        let Some(verb) = words.next() else {
-            return Ok(None);
-        };
-        if verb.starts_with('#') {
-            return Ok(None);
+        match text.split_ascii_whitespace().next() {
+            Some(verb) if !verb.starts_with('#') => Ok(Some(Command::with_verb(verb, line, text)?)),
+            _ => Ok(None),
         }
+    }
+
+    fn with_verb(verb: &str, line: &'a [u8], text: &'a str) -> Result<Command<'a>, Expected> {
+        let mut words = text.split_ascii_whitespace().skip(1);
         let rest = (words.next(), words.next(), words.next(), words.next());
         let command = match (verb, rest) {
             ("open", _) => Command::Open(read_algebra(text)?),
-            ("entry", _) => Command::Do(Order::Entry(read_name(line))),
+            ("entry", _) => Command::Do(Order::Entry(behind(verb, line))),
             // One arm for a verb, also for `try`, which reads as `tie` does.
             ("tie", (Some(first), Some(set), Some(second), None)) => Command::Do(Order::Tie(Bond {
                 first,
@@ -110,9 +126,13 @@ impl<'a> Command<'a> {
             ("given", (Some(first), Some(second), None, _)) => Command::Ask(Question::Given(
                 first, second,
             )),
+            ("load", (Some(_), ..)) => Command::Load(read_path(behind(verb, line))?),
+            ("write", (Some(_), ..)) => Command::Write(read_path(behind(verb, line))?),
+            ("fits", _) => Command::Fits(text),
+            ("list", (None, ..)) => Command::List,
             _ => return Err(expected_behind(verb)),
         };
-        Ok(Some(command))
+        Ok(command)
     }
 }
 
@@ -123,16 +143,22 @@ fn expected_behind(verb: &str) -> Expected {
         "compose" => Expected::TwoSets,
         "tie" | "try" => Expected::Bond,
         "look" | "given" => Expected::TwoEntries,
+        "load" | "write" => Expected::File,
+        "list" => Expected::ListAlone,
         _ => Expected::Command,
     }
 }
 
-// All that stands behind `entry` and one space, as it came.
-fn read_name(line: &[u8]) -> &[u8] {
-    match line.trim_ascii_start() {
-        [b'e', b'n', b't', b'r', b'y', _, name @ ..] => name,
+// All that stands behind the verb and one space, as it came.
+fn behind<'a>(verb: &str, line: &'a [u8]) -> &'a [u8] {
+    match line.trim_ascii_start().strip_prefix(verb.as_bytes()) {
+        Some([_, rest @ ..]) => rest,
         _ => &[],
     }
+}
+
+fn read_path(bytes: &[u8]) -> Result<&str, Expected> {
+    from_utf8(bytes).map_err(|_| Expected::File)
 }
 
 // `open ALGEBRA`, then any number of `house MASK`. Rules one over the other are the one rule of all their masks.
@@ -161,4 +187,19 @@ pub(crate) fn read_set(code: u8, text: &str) -> Option<ReadingSet> {
         Some(digits) => u32::from_str_radix(digits, 16).ok(),
         None => set_of(code, text.as_bytes()),
     }
+}
+
+/// The numbers behind the verb of a line.
+pub(crate) fn read_numbers(
+    heap: Global,
+    text: &str,
+) -> Result<Result<Vec<i32>, Expected>, AllocError> {
+    let mut numbers = Vec::new(heap);
+    for word in text.split_ascii_whitespace().skip(1) {
+        match word.parse::<i32>() {
+            Ok(number) => numbers.push(number)?,
+            Err(_) => return Ok(Err(Expected::Numbers)),
+        }
+    }
+    Ok(Ok(numbers))
 }

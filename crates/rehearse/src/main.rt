@@ -3,8 +3,11 @@
 
 mod answer;
 mod command;
+mod files;
 mod session;
+mod times;
 
+use answer::Answer;
 use session::Session;
 use std::io;
 use std::io::{BufRead, BufReader, Write};
@@ -16,9 +19,12 @@ fn main(rt: HostRuntime) -> io::Result<()> {
         let read = line?;
         let command = without_return(read.as_slice());
         let text = String::from_utf8_lossy(heap, command)?;
-        if let Some(answer) = session.perform(heap, command, text.as_str())? {
+        if let Some(answer) = session.perform(&rt, command, text.as_str())? {
             rt.stdout().write_all(command)?;
-            println!(rt; " = {answer}")?;
+            match answer {
+                Answer::Listing(lines) => print!(rt; " =\n{lines}")?,
+                answer => println!(rt; " = {answer}")?,
+            }
         }
     }
     Ok(())

@@ -1,7 +1,9 @@
 // What a script has opened, and what its commands answer.
 use crate::answer::Answer;
-use crate::command::{Bond, Command, Expected, Order, Question, read_set};
+use crate::command::{Bond, Command, Expected, Order, Question, read_numbers, read_set};
+use crate::{files, times};
 use algebra::{Algebra, House, ReadingSet, Standard, spelled};
+use listing::listing;
 use programme::{Call, Programme, Tie};
 use std::alloc::{AllocError, Global};
 
@@ -25,7 +27,7 @@ impl Session {
     /// Performs the command on a line; none where the line is blank or a comment.
     pub(crate) fn perform<'a>(
         &mut self,
-        heap: Global,
+        rt: &HostRuntime,
         line: &'a [u8],
         text: &'a str,
     ) -> Result<Option<Answer>, AllocError> {
@@ -38,8 +40,23 @@ impl Session {
         let answer = match (command, &mut self.rehearsal) {
             (Command::Open(algebra), _) => self.open(algebra),
             (_, None) => Expected::OpenFirst.into(),
-            (Command::Ask(question), Some(rehearsal)) => rehearsal.ask(heap, question)?,
-            (Command::Do(order), Some(rehearsal)) => rehearsal.order(order),
+            (Command::Ask(question), Some(rehearsal)) => rehearsal.ask(rt.alloc(), question)?,
+            (Command::Do(order), Some(rehearsal)) => numbered(rehearsal.done(order)),
+            (Command::Load(path), Some(rehearsal)) => numbered(files::load(
+                rt,
+                &mut rehearsal.programme,
+                path,
+            )),
+            (Command::Write(path), Some(rehearsal)) => numbered(files::write(
+                rt,
+                &rehearsal.programme,
+                path,
+            )),
+            (Command::Fits(line), Some(rehearsal)) => rehearsal.fits(rt.alloc(), line)?,
+            (Command::List, Some(rehearsal)) => Answer::Listing(listing(
+                rt.alloc(),
+                &rehearsal.programme,
+            )?),
         };
         Ok(Some(answer))
     }
@@ -53,10 +70,29 @@ impl Session {
     }
 }
 
+// A number, or the answer in its place.
+fn numbered(done: Result<usize, Answer>) -> Answer {
+    match done {
+        Ok(number) => Answer::Number(number),
+        Err(answer) => answer,
+    }
+}
+
 impl Rehearsal {
     fn ask(&self, heap: Global, question: Question) -> Result<Answer, AllocError> {
         match self.readings(question) {
             Ok(set) => Ok(Answer::Letters(spelled(heap, self.algebra.stamp().code, set)?)),
+            Err(answer) => Ok(answer),
+        }
+    }
+
+    fn fits(&self, heap: Global, line: &str) -> Result<Answer, AllocError> {
+        let numbers = match read_numbers(heap, line)? {
+            Ok(numbers) => numbers,
+            Err(expected) => return Ok(expected.into()),
+        };
+        match times::fits(self.algebra, &self.programme, numbers.as_slice()) {
+            Ok(unmet) => Ok(Answer::Unmet(unmet)),
             Err(answer) => Ok(answer),
         }
     }
@@ -80,13 +116,6 @@ impl Rehearsal {
                 .given(self.number(first), self.number(second))?,
         };
         Ok(set)
-    }
-
-    fn order(&mut self, order: Order) -> Answer {
-        match self.done(order) {
-            Ok(number) => Answer::Number(number),
-            Err(answer) => answer,
-        }
     }
 
     // The number that the programme answers, or the answer in its place.

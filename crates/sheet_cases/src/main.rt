@@ -1,10 +1,10 @@
-// Cases of programmes: every refusal and the order of refusals, full sheets, both directions, repeated ties, links, tries, lines.
+// Cases of programmes: every refusal and the order of refusals, full sheets, both directions, repeated ties, links, tries, lines, times.
 #![tactic(auto)]
 
 // Lists of cases have one shape and are no twins, here and in `file_cases`.
 mod cases;
 
-use algebra::{Instants, ReadingSet};
+use algebra::{Instants, ReadingSet, Spans};
 use cases::{enter_numbered, print_answer, print_ties, tie, tied};
 use programme::{Call, Programme, Refusal, run};
 use std::io;
@@ -13,12 +13,17 @@ const BEFORE: ReadingSet = 0x2;
 
 const AFTER: ReadingSet = 0x4;
 
+const MEETS: ReadingSet = 0x8;
+
+const STARTS: ReadingSet = 0x80;
+
 fn main(rt: HostRuntime) -> io::Result<()> {
     names(&rt)?;
     full_sheet(&rt)?;
     ties(&rt)?;
     links(&rt)?;
-    line(&rt)
+    line(&rt)?;
+    times(&rt)
 }
 
 // Names at the edges of what is allowed; the earliest refusal counts.
@@ -137,4 +142,35 @@ fn line(rt: &HostRuntime) -> io::Result<()> {
         Some(_) => println!(rt; "performed"),
         None => println!(rt; "not performed"),
     }
+}
+
+// Times for two spans, the first of which meets the second or starts it: at the bounds of the numbers, with equal starts, with
+// another count, and where a span ends before or as it starts.
+fn times(rt: &HostRuntime) -> io::Result<()> {
+    println!(rt; "times")?;
+    let mut programme = Programme::open(Spans);
+    for name in [b"A", b"B"] {
+        print_answer(rt, programme.entry(name))?;
+    }
+    print_answer(rt, programme.tie(tie(0, 1, MEETS | STARTS)))?;
+    let times: [&[i32]; 10] = [
+        &[i32::MIN, 0, 0, i32::MAX],
+        &[0, 3, 0, 9],
+        &[i32::MIN, i32::MAX, i32::MIN, i32::MAX],
+        &[0, 3, 4, 9],
+        &[],
+        &[0, 3, 3],
+        &[0, 3, 3, 9, 10],
+        &[3, 0, 0, 9],
+        &[0, 3, i32::MAX, i32::MIN],
+        &[0, 3, 3, 3],
+    ];
+    for numbers in times {
+        match programme.fits(numbers) {
+            Ok(None) => println!(rt; "none")?,
+            Ok(Some((first, second))) => println!(rt; "{first} {second}")?,
+            Err(misfit) => println!(rt; "refused {}", misfit.number())?,
+        }
+    }
+    Ok(())
 }
