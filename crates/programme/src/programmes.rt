@@ -159,7 +159,7 @@ impl<B: Algebra> Programme<B> {
 
 impl<B: Algebra + Copy> Programme<B> {
     /// A programme with the same entries and ties, for work that may have to be given up.
-    // No `Clone`, whose `clone` may run out of memory, which `load` could not answer; no `Copy`, since a sheet is large.
+    // No `Clone`, whose `clone` may run out of memory, which `load` could not answer; no `Copy`, so that each copy is seen.
     pub fn duplicate(&self) -> Programme<B>
         ensures lent { result.algebra ≡ self.now.algebra }
         ensures same { result.sheet ≡ self.now.sheet }

@@ -190,6 +190,7 @@ pub(crate) fn read_set(code: u8, text: &str) -> Option<ReadingSet> {
 }
 
 /// The numbers behind the verb of a line.
+// Two results, one in the other: memory that runs out is the machine's, a word that is no number the script's.
 pub(crate) fn read_numbers(
     heap: Global,
     text: &str,

@@ -89,6 +89,7 @@ impl Rehearsal {
     fn fits(&self, heap: Global, line: &str) -> Result<Answer, AllocError> {
         let numbers = match read_numbers(heap, line)? {
             Ok(numbers) => numbers,
+            // What is not understood has an answer too, so it is no error of this function.
             Err(expected) => return Ok(expected.into()),
         };
         match times::fits(self.algebra, &self.programme, numbers.as_slice()) {
