@@ -11,13 +11,13 @@ use Rattle.algebra.specs.Bits.{iff, has_half, has_low, has_or, has_cut, cut_has,
 use Rattle.algebra.specs.Unions.{union_from, from_union, union_none}
 
 -- the set without its lowest member
-abbrev others : ℕ → ℕ
+abbrev pub others : ℕ → ℕ
 others s = bit_and s (s - 1)
 
 pub parity : (n : ℕ) → (n % 2 ≡ 0) ⊎ (n % 2 ≡ 1)
 parity n = grind arith
 
-lowest_has : (k n : ℕ) → n ≢ 0 → n < 2 ^ k → has n (count_trailing_zeros k n) ≡ true
+pub lowest_has : (k n : ℕ) → n ≢ 0 → n < 2 ^ k → has n (count_trailing_zeros k n) ≡ true
 unfolding count_trailing_zeros
 lowest_has zero n z h = absurd (z (omega arith))
 lowest_has (suc k) n z h =
@@ -46,7 +46,7 @@ has_double_low : (h : ℕ) → has (h * 2) 0 ≡ false
 has_double_low h = let e : h * 2 % 2 ≡ 0 = omega arith in has_low (h * 2) ∙ ap (λ x. eqb x 1) e
 
 -- the others are all readings but the lowest
-has_others : (k n x : ℕ) → n ≢ 0 → n < 2 ^ k → has (others n) x ≡ (has n x && not (eqb x (count_trailing_zeros k n)))
+pub has_others : (k n x : ℕ) → n ≢ 0 → n < 2 ^ k → has (others n) x ≡ (has n x && not (eqb x (count_trailing_zeros k n)))
 unfolding count_trailing_zeros
 has_others zero n x z h = absurd (z (omega arith))
 has_others (suc k) n zero z h =
@@ -68,7 +68,7 @@ has_others (suc k) n (suc x) z h =
     ]
 
 -- no member is lower than the lowest
-lowest_least : (k n y : ℕ) → has n y ≡ true → count_trailing_zeros k n ≤ y
+pub lowest_least : (k n y : ℕ) → has n y ≡ true → count_trailing_zeros k n ≤ y
 unfolding count_trailing_zeros
 lowest_least zero n y h = omega arith
 lowest_least (suc k) n zero h =

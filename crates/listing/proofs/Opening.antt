@@ -1,4 +1,4 @@
--- From a file to the sheet in it, and to its listing.
+-- From a file to its listing.
 use Rattle.std.proofs.Common.{◌≡◌, ℕ, ◌≤◌, List, length, Ok, Err, refl, inr}
 use Rattle.algebra.specs.Meaning.{Meaning}
 use Rattle.programme.specs.Ledgers.{Ledger, blank}
@@ -11,7 +11,7 @@ use Rattle.qcue.specs.Performed.{LoadKeeps}
 use Rattle.qcue.specs.declared.refusals.Fault.{Fault}
 use Rattle.qcue.proofs.Determined.{loads_zero, load_orderly}
 use Rattle.listing.specs.Listed.{ListingOf}
-use Rattle.listing.specs.Paged.{LoadedAs, RefusedAs, ListedAs}
+use Rattle.listing.specs.Paged.{RefusedAs, ListedAs}
 use Rattle.listing.specs.declared.pages.Refused.TheVariants.{File}
 
 -- n is the meaning of the algebra that the programme holds
@@ -22,19 +22,16 @@ module _ (bytes : List ℕ) (m n : Meaning) (same : n ≡ m) (short : length byt
       let (K, h, _) = (rw same at keeps).answered blank shown in
       (short, inr (record { m = m; opened = named; last = K; refused = h }))
 
-  pub file_loaded : (k : ℕ) (q : Meaning) → q ≡ n → LoadKeeps n s bytes (Ok k) t → LoadedAs bytes q t
-  file_loaded k q still keeps =
+  pub file_listed : (k : ℕ) (text : List ℕ) (q : Meaning) → q ≡ n → LoadKeeps n s bytes (Ok k) t →
+      ((L : Ledger) → Shows q t L → Orderly q L → ListingOf q L text) → ListedAs bytes text
+  file_listed k text q still keeps lists =
       let (K, h, w) = (rw same at keeps).answered blank shown in
       let zero = loads_zero k h refl in
-      rw (still, same) (record { short = short; opened = named; K = K; loaded = rw zero at h; shown = w })
-
-pub file_listed : (bytes text : List ℕ) (m : Meaning) (s : Sheet) → LoadedAs bytes m s →
-    ((L : Ledger) → Shows m s L → Orderly m L → ListingOf m L text) → ListedAs bytes text
-file_listed bytes text m s file lists = record {
-  short = file.short;
-  m = m;
-  opened = file.opened;
-  K = file.K;
-  loaded = file.loaded;
-  listing = lists file.K file.shown (load_orderly file.loaded (blank_orderly m));
-}
+      record {
+        short = short;
+        m = m;
+        opened = named;
+        K = K;
+        loaded = rw zero at h;
+        listing = (rw (still, same) at lists) K w (load_orderly h (blank_orderly m));
+      }

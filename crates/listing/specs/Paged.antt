@@ -2,8 +2,6 @@
 use Rattle.std.specs.Prelude.{ℕ, ◌<◌, ◌≤◌, ◌⊎◌, List, length, Ok, Err, codes}
 use Rattle.algebra.specs.Meaning.{Meaning}
 use Rattle.programme.specs.Ledgers.{Ledger, blank}
-use Rattle.programme.specs.Shown.{Shows}
-use Rattle.programme.specs.declared.sheets.Sheet.{Sheet}
 use Rattle.qcue.specs.Headed.{Headed, Opened}
 use Rattle.qcue.specs.Loaded.{Loads, Says}
 use Rattle.qcue.specs.Refusals.{fault_text}
@@ -24,14 +22,6 @@ pub record Answers (bytes : List ℕ) (fault : Fault) : Type 0 where
 abbrev pub RefusedAs : List ℕ → Refused → Type 0
 RefusedAs bytes TooLong = 16384 < length bytes
 RefusedAs bytes (File fault) = (length bytes ≤ 16384) × (Headed bytes (Err fault) ⊎ Answers bytes fault)
-
--- the bytes load into the sheet of a programme whose algebra means m
-pub record LoadedAs (bytes : List ℕ) (m : Meaning) (s : Sheet) : Type 0 where
-  pub short : length bytes ≤ 16384
-  pub opened : Opened bytes m
-  pub K : Ledger
-  pub loaded : Loads (Says m) m Head blank 0 bytes (Ok 0) K
-  pub shown : Shows m s K
 
 -- the bytes load, and the text is the listing of the ledger that they lead to
 pub record ListedAs (bytes text : List ℕ) : Type 0 where

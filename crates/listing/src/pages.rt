@@ -1,8 +1,9 @@
 // From the bytes of a file to the listing of its sheet.
-ghost use Rattle.std.specs.Prelude.{◌≡◌, IfOk, Some, string_bytes, MatchResult};
+ghost use Rattle.std.specs.Prelude.{◌≡◌, ◌≤◌, length, IfOk, Some, string_bytes, MatchResult};
 ghost use Rattle.algebra.specs.House.{housed};
 ghost use Rattle.algebra.specs.Standard.{meaning_of};
-ghost use Rattle.listing.specs.Paged.{LoadedAs, RefusedAs, ListedAs, refused_text};
+ghost use Rattle.qcue.specs.Headed.{Opened};
+ghost use Rattle.listing.specs.Paged.{RefusedAs, ListedAs, refused_text};
 ghost use Rattle.listing.specs.declared.pages.Refused.TheVariants.{File};
 
 use crate::listings::listing;
@@ -46,27 +47,31 @@ impl From<Fault> for Refused {
     }
 }
 
-/// A programme with the sheet in the bytes of a file.
-fn loaded(bytes: &[u8]) -> Result<Programme<House<Standard>>, Refused>
-    ensures { MatchResult result
-        (λ p. LoadedAs bytes.now (housed (meaning_of p.algebra.below) p.algebra.mask) p.sheet) (RefusedAs bytes.now) }
+/// The algebra that a file names, unless the file is too long.
+fn opened(bytes: &[u8]) -> Result<House<Standard>, Refused>
+    ensures { MatchResult result (λ a. (length bytes.now ≤ 16384) ×
+        Opened bytes.now (housed (meaning_of a.below) a.mask)) (RefusedAs bytes.now) }
 {
     if bytes.len() > LONGEST_LISTED {
         return Err(Refused::TooLong);
     }
-    let mut programme = Programme::open(algebra_of(bytes)?);
-    load(&mut programme, bytes)?;
-    Ok(programme)
+    Ok(algebra_of(bytes)?)
 }
 
 /// The listing of the sheet in the bytes of a file.
-// Two results, one in the other: memory that runs out is the machine's, a refusal is the file's.
+// Two results, one in the other: memory that runs out is the machine's, a refusal is the file's. The programme stays here, since a
+// function that hands it out would copy it.
 pub fn page(heap: Global, bytes: &[u8]) -> Result<Result<String, Refused>, AllocError>
     ensures { IfOk result (λ answer. MatchResult answer
         (λ text. ListedAs bytes.now (string_bytes text)) (RefusedAs bytes.now)) }
 {
-    match loaded(bytes) {
-        Ok(programme) => Ok(Ok(listing(heap, &programme)?)),
-        Err(refused) => Ok(Err(refused)),
+    let algebra = match opened(bytes) {
+        Ok(algebra) => algebra,
+        Err(refused) => return Ok(Err(refused)),
+    };
+    let mut programme = Programme::open(algebra);
+    match load(&mut programme, bytes) {
+        Ok(_) => Ok(Ok(listing(heap, &programme)?)),
+        Err(fault) => Ok(Err(Refused::File(fault))),
     }
 }

@@ -20,7 +20,7 @@ pub both_in_turn : {m : Meaning} {L K J : Ledger} {asks more : List Ask} → InT
 both_in_turn ended q = q
 both_in_turn (next a p) q = next a (both_in_turn p q)
 
-entry_orderly : (m : Meaning) (L : Ledger) (name : List ℕ) (n : ℕ) → Orderly m L → Answered m L (enter name) (Ok n) →
+pub entry_orderly : (m : Meaning) (L : Ledger) (name : List ℕ) (n : ℕ) → Orderly m L → Answered m L (enter name) (Ok n) →
     Orderly m (taken L (enter name))
 entry_orderly m L name n o a = record {
   entered = rw (map_push enter L.names name) (both_in_turn o.entered (next {n = n} a ended));
@@ -37,7 +37,7 @@ telling m L i j mask below = record {
   part = below Everything (lit< tt);
 }
 
-tie_orderly : (m : Meaning) (L : Ledger) (i j mask : ℕ) → Orderly m L → Below m L (tie i j mask) 10 →
+pub tie_orderly : (m : Meaning) (L : Ledger) (i j mask : ℕ) → Orderly m L → Below m L (tie i j mask) 10 →
     Orderly m (taken L (tie i j mask))
 tie_orderly m L i j mask o below = record {
   entered = o.entered;

@@ -26,7 +26,7 @@ grown_none P s = record {
 }
 
 -- first pairs P, then pairs Q, all of them pairs R one way or the other
-grown_then : {P Q R : ℕ → ℕ → Type 0} (s t u : Network) → ((a b : ℕ) → P a b → R a b ⊎ R b a) →
+pub grown_then : {P Q R : ℕ → ℕ → Type 0} (s t u : Network) → ((a b : ℕ) → P a b → R a b ⊎ R b a) →
     ((a b : ℕ) → Q a b → R a b ⊎ R b a) → Grown P s t → Grown Q t u → Grown R s u
 grown_then {P} {Q} {R} s t u f g p q = record {
   sets = q.sets ∙ p.sets;

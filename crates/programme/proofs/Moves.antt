@@ -44,7 +44,7 @@ move_none m H s = record {
   holds = λ ties h w. w;
 }
 
-move_then : {m : Meaning} {H G : List Tie → Type 0} (s t u : Network) →
+pub move_then : {m : Meaning} {H G : List Tie → Type 0} (s t u : Network) →
     ((ties : List Tie) → H ties → Midway m ties s → G ties) → Move m H s t → Move m G t u → Move m H s u
 move_then s t u f p q = record {
   links = q.links ∙ p.links;
@@ -64,7 +64,7 @@ module _ (m : Meaning) (s t : Network) (i j there back : ℕ) (p : Trimmed i j t
   same_cell x y h = p.off x y (λ q. both_ways (pending_at t x y) h (pending_same t i j x y p.waits q))
 
   -- what changed is pending, so that a triangle with no side pending is as it was
-  trimmed_covered : (a b c : ℕ) → Covered m s a b c → Covered m t a b c
+  pub trimmed_covered : (a b c : ℕ) → Covered m s a b c → Covered m t a b c
   trimmed_covered a b c w f g h =
       rw (same_cell a b f, same_cell b c g, same_cell a c h)
       (w (not_pending s t a b a b (p.waits_more a b) f) (not_pending s t b c b c (p.waits_more b c) g)

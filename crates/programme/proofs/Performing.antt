@@ -1,6 +1,5 @@
 -- Lines of turns: one turn more, and what a line of calls says of the ledger.
-use Rattle.std.proofs.Common.{Bool, true, false, Some, None, Option, refl, ◌≡◌, ℕ, ◌+◌, ◌<◌, List, [], ◌∷◌, ◌++◌, map, length, get_or, take, set, Result, sym, ap, ◌∙◌}
-use Rattle.std.specs.Bool.{then_some}
+use Rattle.std.proofs.Common.{◌≡◌, ℕ, ◌+◌, ◌<◌, List, [], ◌∷◌, ◌++◌, map, length, get_or, take, set, Result, sym, ap, ◌∙◌}
 use Rattle.std.proofs.lemmas.List.{take_more, take_more_set}
 use Rattle.algebra.specs.Meaning.{Meaning, Lawful}
 use Rattle.programme.specs.Ledgers.{Ledger, blank}
@@ -44,9 +43,3 @@ pub from_blank : (m n : Meaning) (s u : Sheet) (calls : List Call) (answers : Li
     Shows m s blank → Line (λ s call r t. Keeps n s (ask_of call) r t) s calls answers u →
     FromBlank m (map ask_of calls) answers u
 from_blank m n s u calls answers same l w p = let (K, q) = performed l w (rw same at p) in (s, K, q)
-
--- what holds of a value that is given on a test
-pub given_on : {X : Type 0} (P : X → Type 0) (b : Bool) (x : X) (o : Option X) → o ≡ then_some b x → (b ≡ true → P x) →
-    elim o as (λ _. Type 0) [ None ↦ Unit {0} | Some y ↦ P y ]
-given_on P true x o e h = rw e (h refl)
-given_on P false x o e h = rw e tt

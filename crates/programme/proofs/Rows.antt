@@ -49,16 +49,16 @@ module _ (rows : List ℕ) (i j : ℕ) (l : i < length rows) where
 
 -- ---- pending, in the one row or the other
 
-pending_cases : (w : Network) (x y : ℕ) → pending_at w x y ≡ true →
+pub pending_cases : (w : Network) (x y : ℕ) → pending_at w x y ≡ true →
     (bit_at w.pending x y ≡ true) ⊎ (bit_at w.pending y x ≡ true)
 unfolding pending_at
 pending_cases w x y h = or_cases (bit_at w.pending x y) (bit_at w.pending y x) h
 
-pending_row : (w : Network) (x y : ℕ) → bit_at w.pending x y ≡ true → pending_at w x y ≡ true
+pub pending_row : (w : Network) (x y : ℕ) → bit_at w.pending x y ≡ true → pending_at w x y ≡ true
 unfolding pending_at
 pending_row w x y h = or_left (bit_at w.pending x y) (bit_at w.pending y x) h
 
-pending_column : (w : Network) (x y : ℕ) → bit_at w.pending y x ≡ true → pending_at w x y ≡ true
+pub pending_column : (w : Network) (x y : ℕ) → bit_at w.pending y x ≡ true → pending_at w x y ≡ true
 unfolding pending_at
 pending_column w x y h = or_right (bit_at w.pending x y) (bit_at w.pending y x) h
 

@@ -12,7 +12,7 @@ use Rattle.programme.specs.declared.naming.Name.{Name}
 made : List ℕ → ℕ → Name
 made bytes len = record { bytes = bytes; len = len }
 
-name_ext : (a b : Name) → a.bytes ≡ b.bytes → a.len ≡ b.len → a ≡ b
+pub name_ext : (a b : Name) → a.bytes ≡ b.bytes → a.len ≡ b.len → a ≡ b
 unfolding made
 name_ext a b e f = ap (λ (bytes : List ℕ). made bytes a.len) e ∙ ap (made b.bytes) f
 
@@ -43,10 +43,10 @@ known_among names n name r h a =
         (subst (λ y. Contains (take n names) y) (get_or-take n names k nobody l ∙ e) (Contains-get_or (take n names) k nobody b))
 
 -- the bytes that a name has
-abbrev spelt : Name → List ℕ
+abbrev pub spelt : Name → List ℕ
 spelt name = take name.len name.bytes
 
-spelt_of : (text : List ℕ) → spelt (name_of text) ≡ text
+pub spelt_of : (text : List ℕ) → spelt (name_of text) ≡ text
 spelt_of text = take_at text (replicate (12 - length text) 0) (length text) refl
 
 pub name_same : (a b : List ℕ) → name_of a ≡ name_of b → a ≡ b

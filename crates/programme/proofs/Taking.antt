@@ -1,6 +1,5 @@
 -- Taking a tie: the sheet with one tie more.
-use Rattle.std.proofs.Common.{◌≡◌, ℕ, ◌<◌, ◌≢◌, List, length, get_or, Ok, Err, sym, refl, ap, ◌∙◌, inl, inr, arith}
-use Rattle.std.proofs.lemmas.Bool.{cases_Bool}
+use Rattle.std.proofs.Common.{◌≡◌, ℕ, ◌<◌, ◌≢◌, List, length, get_or, Ok, Err, refl, ap, ◌∙◌, arith}
 use Rattle.algebra.specs.Meaning.{Meaning, Lawful}
 use Rattle.network.specs.Ties.{In, Tie, Apart, Proper, Tied, Allowed, Given}
 use Rattle.network.specs.Candidates.{Net, ClosedCandidate, Settled, Emptied}
@@ -8,7 +7,7 @@ use Rattle.network.specs.Closing.{adding}
 use Rattle.network.proofs.Sets.{empty, none}
 use Rattle.network.proofs.Links.{apart, joined}
 use Rattle.network.proofs.Nets.{clash_shows}
-use Rattle.programme.specs.Networks.{bit_at, tie_of, net_of, Reflects, Empties}
+use Rattle.programme.specs.Networks.{tie_of, net_of, Reflects, Empties}
 use Rattle.programme.specs.Spelled.{nobody}
 use Rattle.programme.specs.Ledgers.{Ledger, tie, taken, Below, Answered}
 use Rattle.programme.specs.Shown.{Shows}
@@ -64,7 +63,7 @@ module _ (m : Meaning) (l : Lawful m) (s t : Sheet) (w : Network) (i j mask : �
 
   module _ (full : ¬ Empties w) where
     clear : ¬ Emptied ties (net_of w)
-    clear (a, b, x, e) = let p = wider (apart proper x) in full (a, b, p.first_in, p.second_in, e)
+    clear (a, b, x, e) = let p = wider (apart proper x) in full (a, p.first_in, (b, p.second_in, (reflects.linked a b).1 x, e))
 
     -- u is t with the network w
     pub taken_shows : (u : Sheet) → SameEntries t u → u.given ≡ t.given → u.network ≡ w → Shows m u (taken L (tie i j mask))
@@ -94,14 +93,8 @@ module _ (m : Meaning) (l : Lawful m) (s t : Sheet) (w : Network) (i j mask : �
     )
 
   module _ (found : Empties w) where
-    -- what is not linked has the universe, which is not empty
     emptied : Emptied ties (net_of w)
-    emptied =
-        let (a, b, ha, hb, e) = found in
-        elim (cases_Bool (bit_at w.links a b)) [
-          | inl on ↦ (a, b, (reflects.linked a b).0 on, e)
-          | inr off ↦ absurd (none 0 m.universe (sym (reflects.free a b ha hb off) ∙ e) l.identity_in)
-        ]
+    emptied = let (a, _, (b, _, on, e)) = found in (a, b, (reflects.linked a b).0 on, e)
 
     pub clash_answered : Below m L (tie i j mask) 10 → Answered m L (tie i j mask) (Err Clash)
     clash_answered below = ((net_of w, reflects.settled, emptied), below)

@@ -28,7 +28,7 @@ turn_less s t u i j p q =
       | inr f ↦ omega arith
     ]
 
-took_midway : (m : Meaning) (ties : List Tie) (s t : Network) (i j : ℕ) → Took i j s t → Midway m ties s →
+pub took_midway : (m : Meaning) (ties : List Tie) (s t : Network) (i j : ℕ) → Took i j s t → Midway m ties s →
     Midway m ties t
 took_midway m ties s t i j p w = record {
   proper = w.proper;

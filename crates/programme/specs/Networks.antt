@@ -31,6 +31,10 @@ pub record Reflects (m : Meaning) (w : Network) (ties : List Tie) : Type 0 where
 abbrev pub tie_of : ℕ → ℕ → ℕ → Tie
 tie_of i j set = record { first = i; second = j; mask = set }
 
--- some pair has the empty set
+-- i has the empty set on some link
+abbrev pub EmptiesIn : Network → ℕ → Type 0
+EmptiesIn w i = (j : ℕ) × (j < 48) × (bit_at w.links i j ≡ true) × (cell w.sets i j ≡ 0)
+
+-- some linked pair has the empty set
 abbrev pub Empties : Network → Type 0
-Empties w = (i j : ℕ) × (i < 48) × (j < 48) × (cell w.sets i j ≡ 0)
+Empties w = (i : ℕ) × (i < 48) × EmptiesIn w i

@@ -78,8 +78,8 @@ pub fn perform_each<B: Algebra, T: Turn<B>>(
         return false;
     }
     // By place: what is written through a zip of `iter_mut` is not known behind the loop.
-    for (k, turn) in turns.iter().enumerate() {
-        answers[k] = turn.perform(programme);
+    for k in 0..turns.len() {
+        answers[k] = turns[k].perform(programme);
     }
     true
 }
@@ -103,6 +103,11 @@ pub fn run<B: Algebra + Drop>(
       | Some p ↦ FromBlank (B.Algebra.meaning algebra) (map ask_of calls.now) answers.new p.sheet
     ] }
 {
+    // Before anything is opened, so that a wrong count costs nothing.
+    if calls.len() != answers.len() {
+        return None;
+    }
     let mut programme = Programme::open(algebra);
-    perform_each(&mut programme, calls, answers).then_some(programme)
+    perform_each(&mut programme, calls, answers);
+    Some(programme)
 }

@@ -2,7 +2,7 @@
 ghost use Rattle.std.specs.Prelude.{◌≡◌, ℕ, ◌<◌, true, [], Decides};
 ghost use Rattle.algebra.specs.Masks.{has};
 ghost use Rattle.algebra.specs.Meaning.{Meaning};
-ghost use Rattle.programme.specs.Networks.{bit_at, cell, Reflects, Empties};
+ghost use Rattle.programme.specs.Networks.{bit_at, cell, Reflects, Empties, EmptiesIn};
 ghost use Rattle.programme.specs.Steps.{Pended, Grown, Same, Each, Below, Implied, FullFrom, Trimmed, Taken};
 
 use algebra::{Members, ReadingSet};
@@ -12,6 +12,9 @@ pub const ENTRIES: usize = 48;
 
 /// A row with a bit for each entry. What stands above is no entry.
 const ALL: u64 = (1 << ENTRIES) - 1;
+
+/// An entry with more links has many.
+const FEW_LINKS: usize = 4;
 
 /// Rows of bits and of sets, by the numbers of entries. A link and its set stand in both directions.
 // Three arrays and not one of rows: `rows[i].links` is no plainer than `links[i]`, and `take` and `emptied` scan one array each.
@@ -54,11 +57,31 @@ impl Network {
         self.sets[i][j]
     }
 
-    /// Whether some pair has the empty set. It is a linked one then, since the others have the universe.
+    /// Whether some linked pair has the empty set.
     pub(crate) fn emptied(&self) -> bool
         ensures { Decides result (Empties self.now) }
     {
-        self.sets.iter().any(|row| row.contains(&0))
+        (0..ENTRIES).any(|i| self.empties(i))
+    }
+
+    /// Whether i has the empty set on some link. A row with many links is read in one run first, which is faster than link by link.
+    fn empties(&self, i: usize) -> bool
+        requires { i < 48 }
+        ensures { Decides result (EmptiesIn self.now i) }
+    {
+        let linked = self.neighbours(i);
+        if linked == 0 {
+            return false;
+        }
+        if Members(linked).nth(FEW_LINKS).is_some() && !self.sets[i].contains(&0) {
+            return false;
+        }
+        for j in Members(linked) {
+            if self.sets[i][j] == 0 {
+                return true;
+            }
+        }
+        false
     }
 
     /// The entries that i is linked with, as bits.

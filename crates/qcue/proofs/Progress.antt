@@ -1,5 +1,5 @@
 -- A load from its start to its end: whatever the remaining records are answered, the whole file is.
-use Rattle.std.proofs.Common.{◌≡◌, ℕ, ◌+◌, ◌<◌, ◌≢◌, List, [], ◌∷◌, length, drop, Ok, Err, Result, sym, refl, ◌∙◌, arith}
+use Rattle.std.proofs.Common.{◌≡◌, ℕ, ◌+◌, ◌<◌, ◌≢◌, List, [], ◌∷◌, length, drop, Ok, Err, Result, sym, refl, ap, ◌∙◌, arith, length-drop}
 use mathlib.Core.List.Memᴰ
 use Rattle.algebra.specs.Meaning.{Meaning}
 use Rattle.algebra.specs.declared.interface.Stamp.{Stamp}
@@ -7,7 +7,7 @@ use Rattle.network.specs.Ties.{Tie, Proper}
 use Rattle.programme.specs.Ledgers.{Ledger}
 use Rattle.programme.specs.Shown.{Shows}
 use Rattle.programme.specs.declared.sheets.Sheet.{Sheet}
-use Rattle.qcue.specs.Records.{length_of, behind}
+use Rattle.qcue.specs.Records.{length_of, behind, Whole}
 use Rattle.qcue.specs.Loaded.{Rule, rank, Loads, done, broken, denied, onward, Says}
 use Rattle.qcue.specs.Taken.{Along, Took, Takes, ShowsLoaded}
 use Rattle.qcue.specs.declared.loading.Expected.{Expected}
@@ -40,6 +40,11 @@ set_out m s L all l first zero w e = record {
   along = record { tied = zero ∙ sym (no_ties (length L.names) L.ties w.proper e); fresh = λ _. e };
   back = λ r K h. rw first at h;
 }
+
+-- the offset and what remains make up the file
+pub place_on : (all rest more : List ℕ) (offset n : ℕ) → Whole rest → n ≡ length_of rest → more ≡ drop n rest →
+    offset + length rest ≡ length all → offset + n + length more ≡ length all
+place_on all rest more offset n w long is h = omega (arith, ap length is ∙ length-drop n rest, w.inside)
 
 -- the answer to the whole file, and what the sheet shows then
 abbrev Ending : Meaning → Sheet → Ledger → List ℕ → Result ℕ Fault → Type 0

@@ -5,7 +5,7 @@ ghost use Rattle.qcue.specs.Performed.{turn_of, TurnKeeps, FromBlank};
 use crate::loading::load;
 use crate::refusals::Fault;
 use algebra::Algebra;
-use programme::{Call, Programme, Refusal, Turn, perform_each};
+use programme::{Call, Programme, Refusal, Turn};
 
 /// What a line asks for in one turn.
 #[derive(Clone, Copy)]
@@ -45,7 +45,7 @@ impl<'a, B: Algebra + Copy> Turn<B> for Request<'a> {
 }
 
 /// Opens a programme, performs the requests in order and records each answer at its place. There must be one place for each.
-// As `programme::run`, over other requests and answers: what a line of them keeps to is a relation of its own.
+// A loop of its own, and not `perform_each`: so a slip in which request is performed is refused here by what the line says.
 pub fn run<B: Algebra + Copy>(
     algebra: B,
     requests: &[Request<'_>],
@@ -64,6 +64,12 @@ pub fn run<B: Algebra + Copy>(
       | Some p ↦ FromBlank (B.Algebra.meaning algebra) (map turn_of requests.now) answers.new p.sheet
     ] }
 {
+    if requests.len() != answers.len() {
+        return None;
+    }
     let mut programme = Programme::open(algebra);
-    perform_each(&mut programme, requests, answers).then_some(programme)
+    for k in 0..requests.len() {
+        answers[k] = perform(&mut programme, requests[k]);
+    }
+    Some(programme)
 }

@@ -100,15 +100,17 @@ fn take_all<B: Algebra + Copy>(programme: &mut Programme<B>, bytes: &[u8]) -> Re
         expected: Expected::Head,
         ties: 0,
     };
-    // A record tells its own length, so the offset is counted.
+    // A record tells its own length, so the offset is counted. It is for faults alone: what is read is what remains.
+    let mut rest = bytes;
     let mut offset = 0;
     while loader.expected != Expected::Nothing {
         let length = loader
-            .take(programme, &bytes[offset..])
+            .take(programme, rest)
             .map_err(|reason| Fault { reason, offset })?;
+        rest = &rest[length..];
         offset += length;
     }
-    if offset < bytes.len() {
+    if !rest.is_empty() {
         return Err(FileRefusal::Trailing.at(offset));
     }
     Ok(0)

@@ -171,11 +171,13 @@ fn read_algebra(text: &str) -> Result<House<Standard>, Expected> {
     let code = below.stamp().code;
     let mut mask = NO_HOUSE_RULE;
     while let Some(word) = words.next() {
-        let set = words.next().and_then(|set| read_set(code, set));
-        match (word, set) {
-            ("house", Some(set)) => mask &= set,
-            _ => return Err(Expected::HouseRule),
+        if word != "house" {
+            return Err(Expected::HouseRule);
         }
+        mask &= words
+            .next()
+            .and_then(|set| read_set(code, set))
+            .ok_or(Expected::HouseRule)?;
     }
     Ok(House { below, mask })
 }

@@ -134,10 +134,12 @@ impl Rehearsal {
     }
 
     fn tie(&self, bond: Bond) -> Result<Tie, Expected> {
+        // The set first: where it is none, no name is looked up.
+        let mask = self.set(bond.set, Expected::Bond)?;
         Ok(Tie {
             first: self.number(bond.first),
             second: self.number(bond.second),
-            mask: self.set(bond.set, Expected::Bond)?,
+            mask,
         })
     }
 
