@@ -17,7 +17,7 @@ const ALL: u64 = (1 << ENTRIES) - 1;
 const FEW_LINKS: usize = 4;
 
 /// Rows of bits and of sets, by the numbers of entries. A link and its set stand in both directions.
-// Three arrays and not one of rows: `rows[i].links` is no plainer than `links[i]`, and `take` and `emptied` scan one array each.
+// Three arrays and not one of rows: `rows[i].links` is no plainer than `links[i]`, and `take` scans one array.
 // An entry's number below 48 is a plain `usize` with a `requires`: a type for it would be unwrapped at every index.
 #[derive(Clone, Copy)]
 pub struct Network {
